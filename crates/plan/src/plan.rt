@@ -1,0 +1,100 @@
+// A plan, and who it says owns each tick.
+ghost use Prim.Native.Nat.{ℕ, _*_, _^_, _≤_};
+ghost use lib.IntN.{ℤ};
+ghost use mathlib.Core.List.{[]};
+ghost use mathlib.Core.Path.{_≡_};
+ghost use Rattle.std.specs.Of.Vec.{vec-items, vec-len};
+ghost use Rattle.std.specs.declared.option.Option.{Option};
+ghost use Rattle.plan.specs.Entries.{NoClash};
+ghost use Rattle.plan.specs.Owners.{OwnedBy, ownerIn};
+ghost use Rattle.plan.specs.Told.{Ranged};
+use crate::entry::Entry;
+use crate::entry::frames;
+use clock::BasePeriod;
+use clock::Cycle;
+use std::alloc::Global;
+use timetable::table::Timetable;
+
+/// A base period, a depth and the entries, of which no two clash.
+#[derive(Drop)]
+pub struct Plan {
+    pub(crate) base: BasePeriod,
+    pub(crate) depth: u8,
+    pub(crate) entries: Vec<Entry>,
+    ghost shallow: { depth ≤ 5 },
+    ghost few: { vec-len entries ≤ 120 },
+    ghost ranged: { Ranged (base .ticks) depth (vec-items entries) (vec-len entries) },
+    ghost apart: { NoClash (vec-items entries) (vec-len entries) },
+}
+
+impl Plan {
+    /// The plan that owns nothing, of base period 1 and depth 0.
+    pub fn empty(heap: Global) -> Plan
+        ensures base { λ r. ⌜ r .base .ticks ≡ 1 ⌝ }
+        ensures depth { λ r. ⌜ r .depth ≡ 0 ⌝ }
+        ensures entries { λ r. ⌜ vec-items (r .entries) ≡ [] ⌝ }
+    {
+        Plan {
+            base: BasePeriod { ticks: 1 },
+            depth: 0,
+            entries: Vec::new(heap),
+        }
+    }
+
+    /// The base period.
+    pub fn base(&self) -> BasePeriod
+        ensures { λ r. ⌜ r .ticks ≡ now (self .entry) .base .ticks ⌝ }
+    {
+        self.base
+    }
+
+    /// The depth.
+    pub fn depth(&self) -> u8
+        ensures { λ r. ⌜ r ≡ now (self .entry) .depth ⌝ }
+    {
+        self.depth
+    }
+
+    /// The entries, in the order in which they were given.
+    pub fn entries(&self) -> &[Entry]
+        ensures { λ r. ⌜ now r ≡ vec-items (now (self .entry) .entries) ⌝ }
+    {
+        self.entries.as_slice()
+    }
+
+    // The activity of the first entry that owns the tick.
+    fn find_owner(&self, t: i32) -> Option<u8>
+        ensures { λ r. ⌜ r ≡ ownerIn (now (self .entry) .base .ticks) (vec-items (now (self .entry) .entries)) t ⌝ }
+    {
+        let place = self.base.place(t);
+        let frame = Cycle {
+            len: frames(self.depth),
+        }.phase(place.frame, 0);
+        for entry in self.entries.as_slice() {
+            if entry.covers(frame, place.offset) {
+                return Some(entry.activity);
+            }
+        }
+        None
+    }
+}
+
+pub impl Timetable for Plan as PlanTimetable {
+    ghost owner = { λ p. ownerIn (p .base .ticks) (vec-items (p .entries)) };
+
+    ghost cycle = { λ p. p .base .ticks * 2 ^ p .depth };
+
+    fn owner_at(&self, t: i32) -> Option<u8>
+        ensures value { λ r. ⌜ r ≡ ownerIn (now (self .entry) .base .ticks) (vec-items (now (self .entry) .entries)) t ⌝ }
+        ensures owned { λ r. ⌜ OwnedBy (now (self .entry) .base .ticks) (vec-items (now (self .entry) .entries)) t r ⌝ }
+        ensures only { λ r. ⌜ ((o : Option ℕ) → OwnedBy (now (self .entry) .base .ticks) (vec-items (now (self .entry) .entries)) t o → o ≡ r) ⌝ }
+    {
+        self.find_owner(t)
+    }
+
+    fn cycle(&self) -> Cycle {
+        Cycle {
+            len: self.base.ticks * frames(self.depth),
+        }
+    }
+}
