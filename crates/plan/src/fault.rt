@@ -4,6 +4,8 @@ ghost use mathlib.Core.Path.{_≡_};
 ghost use Rattle.plan.specs.Numbers.{numberOf};
 ghost use Rattle.plan.specs.declared.fault.PlanFault.the-variants.{Memory};
 use std::alloc::AllocError;
+use std::error::Error;
+use std::fmt;
 
 /// A refusal of a plan, with what it tells besides its number. Indices count from 0.
 #[derive(Clone, Copy, PartialEq, Eq, Debug)]
@@ -42,3 +44,26 @@ pub impl From<AllocError> for PlanFault as PlanFaultFromAllocError {
         PlanFault::Memory
     }
 }
+
+pub impl fmt::Display for PlanFault as PlanFaultDisplay {
+    fn fmt<W: fmt::Write>(&self, f: &mut fmt::Formatter<W>) -> fmt::Result {
+        match self {
+            PlanFault::Dimensions => write!(
+                f,
+                "21: the base period is outside 1 to 64, or the depth above 5"
+            ),
+            PlanFault::TooManyEntries => write!(f, "22: over 120 entries"),
+            PlanFault::OutOfRange { index } => write!(
+                f,
+                "23: a field of entry {index} is outside its range"
+            ),
+            PlanFault::Clash { later, earlier } => write!(
+                f,
+                "24: entry {later} clashes with entry {earlier}"
+            ),
+            PlanFault::Memory => write!(f, "no memory for the plan"),
+        }
+    }
+}
+
+pub impl Error for PlanFault as PlanFaultError {}

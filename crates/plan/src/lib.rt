@@ -3,4 +3,5 @@
 pub mod entry;
 pub mod fault;
 pub mod fill;
+pub mod parts;
 pub mod plan;

@@ -41,27 +41,6 @@ impl Plan {
         }
     }
 
-    /// The base period.
-    pub fn base(&self) -> BasePeriod
-        ensures { λ r. ⌜ r .ticks ≡ now (self .entry) .base .ticks ⌝ }
-    {
-        self.base
-    }
-
-    /// The depth.
-    pub fn depth(&self) -> u8
-        ensures { λ r. ⌜ r ≡ now (self .entry) .depth ⌝ }
-    {
-        self.depth
-    }
-
-    /// The entries, in the order in which they were given.
-    pub fn entries(&self) -> &[Entry]
-        ensures { λ r. ⌜ now r ≡ vec-items (now (self .entry) .entries) ⌝ }
-    {
-        self.entries.as_slice()
-    }
-
     // The activity of the first entry that owns the tick.
     fn find_owner(&self, t: i32) -> Option<u8>
         ensures { λ r. ⌜ r ≡ ownerIn (now (self .entry) .base .ticks) (vec-items (now (self .entry) .entries)) t ⌝ }

@@ -28,7 +28,7 @@ pub impl<T: Timetable> Timetable for Shift<T> as ShiftTimetable {
     ghost cycle = { λ s. T·Timetable .cycle (s .below) };
 
     fn owner_at(&self, t: i32) -> Option<u8> {
-        let phase = self.below.cycle().phase(t, self.by);
+        let phase = self.cycle().phase(t, self.by);
         self.below.owner_at(i32::from(phase))
     }
 

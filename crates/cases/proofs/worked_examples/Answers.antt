@@ -1,0 +1,10 @@
+use mathlib.Core.Path.{refl}
+use native.Mathlib.Omega.{arith}
+use Rattle.cases.proofs.worked_examples.Needs as need
+
+pub returns : need.returns
+returns c =
+    record {
+      count = refl;
+      hold = (refl, (refl, (refl, (refl, (refl, (refl, (refl, (refl, (refl, (refl, (refl, (refl, (refl, ((λ a b o n h. (refl, omega arith, omega arith)), ((λ a b o n h. absurd (omega (arith, h .0))), tt)))))))))))))));
+    }
