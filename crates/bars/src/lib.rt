@@ -5,9 +5,10 @@ ghost use lib.IntN.{ℤ};
 ghost use lib.ListN.{length, getD};
 ghost use mathlib.Core.Path.{_≡_};
 ghost use Rattle.std.specs.Of.String.{string-bytes};
+ghost use Rattle.std.specs.Options.{Cases as BySome};
 ghost use Rattle.std.specs.Orderings.{Decides};
 ghost use Rattle.std.specs.Vec.{made};
-ghost use Rattle.bars.specs.Lines.{mark, Column, Line};
+ghost use Rattle.bars.specs.Lines.{mark, Shows, Column, Line};
 use std::alloc::AllocError;
 use std::alloc::Global;
 use timetable::table::Timetable;
@@ -31,22 +32,28 @@ fn bar(owner: Option<u8>, who: Option<u8>) -> char
     if is_same(owner, who) { '#' } else { '.' }
 }
 
+// The tick that a column shows; the column of the stroke shows none.
+fn tick_in(column: u16, cycle: u16) -> Option<i32>
+    ensures { λ r. ⌜ BySome r (column ≡ cycle) (Shows cycle column) ⌝ }
+{
+    if column < cycle {
+        return Some(i32::from(column) - i32::from(cycle));
+    }
+    if column == cycle {
+        return None;
+    }
+    Some(i32::from(column - cycle - 1))
+}
+
 // The character in a column of the line.
 fn character<T: Timetable>(timetable: &T, who: Option<u8>, column: u16) -> char
     ensures column { λ r. ⌜ Column (T·Timetable .owner (now (timetable .entry))) (T·Timetable .cycle (now (timetable .entry))) who column r ⌝ }
     ensures ascii { λ r. ⌜ r < 128 ⌝ }
 {
-    let cycle = timetable.cycle().len;
-    if column < cycle {
-        return bar(
-            timetable.owner_at(i32::from(column) - i32::from(cycle)),
-            who,
-        );
+    match tick_in(column, timetable.cycle().len) {
+        Some(t) => bar(timetable.owner_at(t), who),
+        None => '|',
     }
-    if column == cycle {
-        return '|';
-    }
-    bar(timetable.owner_at(i32::from(column - cycle - 1)), who)
 }
 
 /// The line of an activity, or of the free ticks: the cycle left of zero, a stroke, and the cycle right of it.

@@ -74,11 +74,11 @@ pub record Sought (b d : ℕ) (t : ℤ) (n o : ℕ) : Type 0 where
   pub residue : n ≡ floorMod (floorDiv t b) (2 ^ d)
   pub offset : o ≡ floorMod t b
 
-pub sought : (b d m : ℕ) {t f g : ℤ} {n o : ℕ} → Lies t b f o → g ≡ f → m ≡ 2 ^ d → n ≡ floorMod (g -ℤ pos 0) m → Sought b d t n o
-sought b d m {t} {f} {g} {n} {o} l p q r =
+pub sought : (b d : ℕ) {t f g : ℤ} {n o : ℕ} → Lies t b f o → g ≡ f → n ≡ floorMod (g -ℤ pos 0) (2 ^ d) → Sought b d t n o
+sought b d {t} {f} {g} {n} {o} l p r =
     let once = lies-once t b f o l in
     let z : g -ℤ pos 0 ≡ floorDiv t b = omega (arith, ints, p, once .0) in
-    record { residue = r ∙ ap (λ x. floorMod x m) z ∙ ap (floorMod (floorDiv t b)) q; offset = once .1 }
+    record { residue = r ∙ ap (λ x. floorMod x (2 ^ d)) z; offset = once .1 }
 
 covers-owns : (b d : ℕ) (e : Entry) {t : ℤ} {n o : ℕ} → Sought b d t n o → e .depth ≤ d → covers e n o ≡ owns b e t
 covers-owns b d e {t} {n} {o} s h =

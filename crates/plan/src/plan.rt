@@ -1,10 +1,11 @@
 // A plan, and who it says owns each tick.
 ghost use Prim.Native.Nat.{ℕ, _*_, _^_, _≤_};
-ghost use lib.IntN.{ℤ};
+ghost use lib.IntN.{ℤ, pos, _-ℤ_};
 ghost use mathlib.Core.List.{[]};
 ghost use mathlib.Core.Path.{_≡_};
 ghost use Rattle.std.specs.Of.Vec.{vec-items, vec-len};
 ghost use Rattle.std.specs.declared.option.Option.{Option};
+ghost use Rattle.clock.specs.Floor.{floorMod};
 ghost use Rattle.plan.specs.Entries.{NoClash};
 ghost use Rattle.plan.specs.Owners.{OwnedBy, ownerIn};
 ghost use Rattle.plan.specs.Told.{Ranged};
@@ -41,14 +42,28 @@ impl Plan {
         }
     }
 
+    // A frame's residue at the plan's depth.
+    fn residue_of(&self, frame: i32) -> u16
+        ensures { λ r. ⌜ r ≡ floorMod (frame -ℤ pos 0) (2 ^ now (self .entry) .depth) ⌝ }
+    {
+        Cycle {
+            len: frames(self.depth),
+        }.phase(frame, 0)
+    }
+
+    // The number of ticks in a cycle.
+    fn cycle_ticks(&self) -> u16
+        ensures { λ r. ⌜ r ≡ now (self .entry) .base .ticks * 2 ^ now (self .entry) .depth ⌝ }
+    {
+        self.base.ticks * frames(self.depth)
+    }
+
     // The activity of the first entry that owns the tick.
     fn find_owner(&self, t: i32) -> Option<u8>
         ensures { λ r. ⌜ r ≡ ownerIn (now (self .entry) .base .ticks) (vec-items (now (self .entry) .entries)) t ⌝ }
     {
         let place = self.base.place(t);
-        let frame = Cycle {
-            len: frames(self.depth),
-        }.phase(place.frame, 0);
+        let frame = self.residue_of(place.frame);
         for entry in self.entries.as_slice() {
             if entry.covers(frame, place.offset) {
                 return Some(entry.activity);
@@ -73,7 +88,7 @@ pub impl Timetable for Plan as PlanTimetable {
 
     fn cycle(&self) -> Cycle {
         Cycle {
-            len: self.base.ticks * frames(self.depth),
+            len: self.cycle_ticks(),
         }
     }
 }

@@ -1,7 +1,8 @@
 // Any timetable, moved along the clock.
 ghost use Prim.Native.Nat.{ℕ};
-ghost use lib.IntN.{ℤ};
+ghost use lib.IntN.{ℤ, _-ℤ_};
 ghost use mathlib.Core.Path.{_≡_};
+ghost use Rattle.clock.specs.Floor.{floorMod};
 ghost use Rattle.timetable.specs.Owners.{shifted};
 use crate::table::Timetable;
 use clock::Cycle;
@@ -22,17 +23,26 @@ impl<T> Shift<T> {
     }
 }
 
+impl<T: Timetable> Shift<T> {
+    // The tick of the first cycle below whose owner `t` has: the law that owners repeat makes it as good as t - by.
+    fn tick_below(&self, t: i32) -> u16
+        ensures { λ r. ⌜ r ≡ floorMod (t -ℤ now (self .entry) .by) (T·Timetable .cycle (now (self .entry) .below)) ⌝ }
+    {
+        self.below.cycle().phase(t, self.by)
+    }
+}
+
 pub impl<T: Timetable> Timetable for Shift<T> as ShiftTimetable {
     ghost owner = { λ s. shifted (T·Timetable .owner (s .below)) (s .by) };
 
     ghost cycle = { λ s. T·Timetable .cycle (s .below) };
 
     fn owner_at(&self, t: i32) -> Option<u8> {
-        let phase = self.cycle().phase(t, self.by);
-        self.below.owner_at(i32::from(phase))
+        self.below.owner_at(i32::from(self.tick_below(t)))
     }
 
     fn cycle(&self) -> Cycle {
-        self.below.cycle()
+        let Shift { below, .. } = self;
+        below.cycle()
     }
 }

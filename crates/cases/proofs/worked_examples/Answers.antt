@@ -5,6 +5,6 @@ use Rattle.cases.proofs.worked_examples.Needs as need
 pub returns : need.returns
 returns c =
     record {
-      count = refl;
+      count = c .example-count .ensures;
       hold = (refl, (refl, (refl, (refl, (refl, (refl, (refl, (refl, (refl, (refl, (refl, (refl, (refl, ((λ a b o n h. (refl, omega arith, omega arith)), ((λ a b o n h. absurd (omega (arith, h .0))), tt)))))))))))))));
     }

@@ -16,22 +16,3 @@ returns-in-Break-period c =
     let t = told-as BasePeriod (Unit {0}) b d es (c .in-Break-period .field-0 .0) (c .in-Break-period .ensures tt .told) in
     let all = refused b d es (c .args .self .now) (c .from-residual .result) (p .0) (p .1) (subst (λ e. Told {U = Unit {0}} b d es (Err e)) (sym (p .2)) t) in
     record { told = all .told; only = all .only; after = all .after; shared = all .shared }
-
-pub returns-in-Break-copy : need.returns-in-Break-copy
-returns-in-Break-copy c =
-    let b = c .args .base in
-    let d = c .args .depth in
-    let es = c .args .entries .now in
-    let p = err-from-errBy (c .from-residual-in-Break-copy .result) (c .from-residual-in-Break-copy .ensures .1) in
-    let all = refused b d es (c .args .self .now) (c .from-residual-in-Break-copy .result) Memory (p .1 ∙ ap Err (p .2)) (c .in-Continue-period .ensures tt .told) in
-    record { told = all .told; only = all .only; after = all .after; shared = all .shared }
-
-pub returns : need.returns
-returns c =
-    let t = c .in-Continue-period .ensures tt .told in
-    record {
-      told = t;
-      only = only-told (c .args .base) (c .args .depth) (c .args .entries .now) (Ok tt) t;
-      after = (c .in-Continue-period .ensures tt .made, refl, c .in-Continue-copy .ensures tt .made .0);
-      shared = tt;
-    }

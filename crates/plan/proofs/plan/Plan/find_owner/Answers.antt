@@ -29,7 +29,7 @@ loop-entry-again c =
     let p = c .args .self .now in
     let es = c .as-slice-entry-items .result .now in
     let fits : SFits w32 (c .place-place .result .frame) = search needs in
-    let s = sought (p .base .ticks) (p .depth) (c .frames .result) (c .place-place .ensures .lies) (toZ-ofZ w32 (c .place-place .result .frame) fits) (c .frames .ensures) (c .phase-frame .ensures .value) in
+    let s = sought (p .base .ticks) (p .depth) (c .place-place .ensures .lies) (toZ-ofZ w32 (c .place-place .result .frame) fits) (c .residue-of-frame .ensures) in
     owner-later (p .base .ticks) (p .depth) es (c .loop-entry .entry-index) s (ranged p es (c .as-slice-entry-items .ensures .value)) (c .loop-entry-test .taken) (c .if-covers .ensures tt) (c .loop-entry .inv)
 
 pub returns-then-covers : need.returns-then-covers
@@ -37,7 +37,7 @@ returns-then-covers c =
     let p = c .args .self .now in
     let es = c .as-slice-entry-items .result .now in
     let fits : SFits w32 (c .place-place .result .frame) = search needs in
-    let s = sought (p .base .ticks) (p .depth) (c .frames .result) (c .place-place .ensures .lies) (toZ-ofZ w32 (c .place-place .result .frame) fits) (c .frames .ensures) (c .phase-frame .ensures .value) in
+    let s = sought (p .base .ticks) (p .depth) (c .place-place .ensures .lies) (toZ-ofZ w32 (c .place-place .result .frame) fits) (c .residue-of-frame .ensures) in
     let h = owner-here (p .base .ticks) (p .depth) es (c .loop-entry .entry-index) s (ranged p es (c .as-slice-entry-items .ensures .value)) (c .loop-entry-test .taken) (c .if-covers .ensures tt) (c .loop-entry .inv) in
     told (p .base .ticks) h (toZ-ofZ w32 (c .args .t) (c .fits .t)) (c .as-slice-entry-items .ensures .value)
 
