@@ -1,5 +1,5 @@
 // Worked examples: a plan that a person can follow on paper, and what the definitions say of it.
-// It uses every layer of which it has an example, so far `plan` and `timetable`.
+// It uses every layer of which it has an example: `timetable`, `plan`, `reservation` and `spare`.
 ghost use lib.ListN.{length};
 ghost use mathlib.Core.Path.{_≡_};
 ghost use Rattle.std.specs.Of.Vec.{vec-items};
@@ -78,7 +78,7 @@ pub fn example_plan(heap: Global) -> Result<Plan, PlanFault>
 fn example_count() -> usize
     ensures { λ r. ⌜ r ≡ length examples ⌝ }
 {
-    15
+    22
 }
 
 /// How many worked examples there are. That each of them holds is the theorem on its contract.

@@ -1,0 +1,4 @@
+pub mod Windows
+pub mod Reservations
+pub mod Numbers
+pub mod Told

@@ -1,0 +1,10 @@
+pub mod Sets
+pub mod Chosen
+pub mod Orders
+pub mod Holds
+pub mod Wheels
+pub mod Search
+pub mod Told
+pub mod Filled
+pub mod Calls
+pub mod Example
