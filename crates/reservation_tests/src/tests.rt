@@ -129,7 +129,8 @@ fn sixteen_and_seventeen(rt: LibcRuntime) -> Result<(), Fail> {
     check_eq(check(&sixteen, &list[1..17]), outside(15))?;
     let earlier = Shift::new(sixteen, -3);
     check_eq(check(&earlier, &list[0..16]), Ok(()))?;
-    check_eq(check(&earlier, &list), Err(CheckFault::TooMany))
+    check_eq(check(&earlier, &list), Err(CheckFault::TooMany))?;
+    check_eq(check(&earlier, &list[1..17]), outside(15))
 }
 
 #[test]

@@ -7,8 +7,8 @@ use native.Mathlib.Omega.{arith}
 pub held-bound : (m d p l : ℕ) → d ≤ p → l ≤ m → (m + 1) * d + l ≤ (m + 1) * p + m
 held-bound m d p l h k = omega (arith, mul-le-mul-left (m + 1) h)
 
-pub held-falls : (m d d′ l : ℕ) → d′ < d → (m + 1) * d′ + m < (m + 1) * d + l
-held-falls m d d′ l h =
+pub held-falls : (m d d′ l l′ : ℕ) → d′ < d → l′ ≤ m → (m + 1) * d′ + l′ < (m + 1) * d + l
+held-falls m d d′ l l′ h k =
     let s : suc d′ ≤ d = h in
     omega (arith, mul-le-mul-left (m + 1) s, mul-suc (m + 1) d′)
 

@@ -129,8 +129,11 @@ stands-after ready xs i b before q r other =
     (⊎-elim (λ lt. absurd (both-ways (ready b) (sym (ap ready stands) ∙ before (placeOf b xs) lt) r)) (λ gt. gt))
     (cases-order (placeOf b xs) i)
 
-pub comes-nearer : (ready : ℕ → Bool) (xs : List ℕ) (i b : ℕ) → ((k : ℕ) → k < i → ready (getD xs k 0) ≡ false) → placeOf b xs < length xs → ready b ≡ true → (b ≡ getD xs i 0 → ⊥) → placeOf b (moved xs i) < placeOf b xs
-comes-nearer ready xs i b before q r other = nearer xs i b (stands-after ready xs i b before q r other) q
+-- so it comes nearer whoever up to i goes to the end
+pub comes-nearer : (ready : ℕ → Bool) (xs : List ℕ) (i j b : ℕ) → j ≤ i → ((k : ℕ) → k < i → ready (getD xs k 0) ≡ false) → placeOf b xs < length xs → ready b ≡ true → (b ≡ getD xs i 0 → ⊥) → placeOf b (moved xs j) < placeOf b xs
+comes-nearer ready xs i j b h before q r other =
+    let after = stands-after ready xs i b before q r other in
+    nearer xs j b (omega arith) q
 
 pub none-ready : (ready : ℕ → Bool) (xs : List ℕ) → ((k : ℕ) → k < length xs → ready (getD xs k 0) ≡ false) → (a : ℕ) → placeOf a xs < length xs → ready a ≡ false
 none-ready ready xs before a q = sym (ap ready (at-place a xs q)) ∙ before (placeOf a xs) q

@@ -11,8 +11,18 @@ use Rattle.spare.specs.Chosen.{NamesNobody, Names}
 use Rattle.spare.specs.Orders.{firstReady, sentBack, placeOf, times}
 use Rattle.spare.specs.Search.{moved, NoneIn, FirstAt}
 use Rattle.spare.specs.Sets.{isReady}
-use Rattle.spare.proofs.Orders.{has-place, times-moved, all-moved, comes-nearer, none-ready, found-at, found-none}
+use Rattle.spare.proofs.Orders.{has-place, length-moved, times-moved, all-moved, comes-nearer, none-ready, found-at, found-none}
 use Rattle.spare.proofs.Sets.{member-known, from-below}
+
+-- an order stays one, whoever goes to the end
+pub kept : (xs : List ℕ) (j : ℕ) (ys : List ℕ) → ys ≡ moved xs j → j < 16 → length xs ≡ 16 → ((k : ℕ) → k < 16 → getD xs k 0 < 16) → ((a : ℕ) → a < 16 → times a xs ≡ 1) → (length ys ≡ 16) × (((k : ℕ) → k < 16 → getD ys k 0 < 16) × (((a : ℕ) → a < 16 → times a ys ≡ 1) × Unit {0}))
+kept xs j ys e h long known once = (
+  ap length e ∙ length-moved xs j ∙ long,
+  (
+    subst (λ (zs : List ℕ). (k : ℕ) → k < 16 → getD zs k 0 < 16) (sym e) (all-moved (λ x. x < 16) xs j long h known),
+    ((λ a l. ap (times a) e ∙ times-moved a xs j ∙ once a l), tt),
+  ),
+)
 
 -- an order of all sixteen, each once
 module _ (s : ReadySet) (xs : List ℕ) (long : length xs ≡ 16) (once : (a : ℕ) → a < 16 → times a xs ≡ 1) where
@@ -34,12 +44,12 @@ module _ (s : ReadySet) (xs : List ℕ) (long : length xs ≡ 16) (once : (a : �
     before : (k : ℕ) → k < i → isReady s (getD xs k 0) ≡ false
     before k l = f .before k (omega arith) l
 
-    pub names : (ys : List ℕ) → ys ≡ moved xs i → Names (getD xs i 0) (isReady s) (λ a. placeOf a xs) 15 (λ a. placeOf a ys) 15
-    names ys e =
+    pub names : (j : ℕ) → j ≤ i → (ys : List ℕ) → ys ≡ moved xs j → Names (getD xs i 0) (isReady s) (λ a. placeOf a xs) 15 (λ a. placeOf a ys) 15
+    names j h ys e =
         record {
           known = known i (f .high);
           member = f .here;
-          nearer = λ b r other. subst (λ (zs : List ℕ). placeOf b zs < placeOf b xs) (sym e) (comes-nearer (isReady s) xs i b before (stands b (member-known s b r)) r other);
+          nearer = λ b r other. subst (λ (zs : List ℕ). placeOf b zs < placeOf b xs) (sym e) (comes-nearer (isReady s) xs i j b h before (stands b (member-known s b r)) r other);
           steady = refl;
         }
 

@@ -36,5 +36,4 @@ returns g c =
     let x = c .args .timetable .now in
     let r = c .args .reservation .now in
     let l = g .T·Timetable·met .least x in
-    let n = c .cycle-start-end .ensures in
     served-by-cycle (g .T·Timetable .owner x) (g .T·Timetable .cycle x) (omega arith) (g .T·Timetable·met .repeats x) (r .activity) (r .ticks) (r .period) (λ k h. c .loop-start .inv .2 k (omega arith))
