@@ -1,9 +1,14 @@
-# The example plan, proved, built and run.
+# The example's sheet, made from words and inspected; then one whose entries clash. Everything that it runs is proved first.
 demo:
 	rt check inspect
-	./target/bin/inspect
+	mkdir -p target/demo
+	sh examples/make-sheet.sh < examples/example.plan > target/demo/plan.bin
+	cd target/demo && ../bin/inspect
+	sh examples/make-sheet.sh < examples/clash.plan > target/demo/plan.bin
+	cd target/demo && ../bin/inspect
 
-# The gate: everything proved from nothing, every must-fail edit refused, every program and test run.
+# The gate: everything proved from nothing, every must-fail edit refused, every program and test run, and the second program
+# compared with the proved one.
 test:
 	sh .ci/run
 

@@ -1,46 +1,20 @@
-// The program `inspect`: shows a plan to a person, as bars over the cycle left of zero and the cycle right of it, and what the
-// check says of two lists of reservations. It is thin: what a line holds is proved in `bars`, and the verdict in `reservation`.
+// The program `inspect`: reads the sheet `plan.bin` from the folder it runs in, and says what it holds or why it is refused.
+// The first line is for tools, what follows for a person. It is thin: what loading does is proved in `sheet`, and what a line
+// of bars holds in `bars`.
 use bars::line;
 use bars::owns_any;
-use cases::example_plan;
-use plan::fault::PlanFaultDebug;
-use plan::fault::PlanFaultDisplay;
-use plan::fault::PlanFaultError;
 use plan::plan::Plan;
 use plan::plan::PlanTimetable;
-use reservation::check::check;
-use reservation::fault::CheckFaultDisplay;
 use reservation::reservation::Reservation;
+use sheet::fault::SheetFault;
+use sheet::load::load;
+use sheet::words::LayerDisplay;
+use sheet::words::SheetFaultDisplay;
 use std::error::AnyError;
+use std::fs;
 use timetable::table::Timetable;
 
-// What the example plan grants.
-const GRANTED: [Reservation; 3] = [
-    Reservation {
-        activity: 0,
-        ticks: 4,
-        period: 20,
-    },
-    Reservation {
-        activity: 1,
-        ticks: 3,
-        period: 10,
-    },
-    Reservation {
-        activity: 5,
-        ticks: 5,
-        period: 40,
-    },
-];
-
-// As many ticks, out of a shorter period.
-const TOO_MUCH: [Reservation; 1] = [Reservation {
-    activity: 0,
-    ticks: 4,
-    period: 19,
-}];
-
-fn print_heading(rt: &LibcRuntime, plan: &Plan) -> Result<(), AnyError> {
+fn print_plan(rt: &LibcRuntime, plan: &Plan) -> Result<(), AnyError> {
     let base = plan.base().ticks;
     let depth = plan.depth();
     let cycle = plan.cycle().len;
@@ -68,29 +42,50 @@ fn print_bars<T: Timetable>(rt: &LibcRuntime, timetable: &T) -> Result<(), AnyEr
     Ok(())
 }
 
-fn print_verdict(rt: &LibcRuntime, plan: &Plan, list: &[Reservation]) -> Result<(), AnyError> {
-    println!(rt, "reservations")?;
+fn print_reservations(rt: &LibcRuntime, list: &[Reservation]) -> Result<(), AnyError> {
     for reservation in list {
         let Reservation {
             activity,
             ticks,
             period,
         } = *reservation;
-        println!(rt, "{activity:>4} {ticks} ticks in every {period}")?;
+        println!(
+            rt,
+            "activity {activity} has {ticks} ticks in every {period}"
+        )?;
     }
-    match check(plan, list) {
-        Ok(()) => println!(rt, "pass: every window is served")?,
-        Err(fault) => println!(rt, "refused by {fault}")?,
-    }
+    println!(rt, "every window is served")?;
+    Ok(())
+}
+
+fn print_refusal(rt: &LibcRuntime, fault: &SheetFault) -> Result<(), AnyError> {
+    let Some(number) = fault.number() else {
+        return Err("no memory for the plan".into());
+    };
+    let layer = fault.layer();
+    let place = fault.place();
+    println!(rt, "{layer} {number} {place}")?;
+    println!(rt, "refused by {fault}")?;
     Ok(())
 }
 
 fn run(rt: &LibcRuntime) -> Result<(), AnyError> {
-    let plan = example_plan(rt.alloc())?;
-    print_heading(rt, &plan)?;
-    print_bars(rt, &plan)?;
-    print_verdict(rt, &plan, &GRANTED)?;
-    print_verdict(rt, &plan, &TOO_MUCH)
+    let bytes = fs::read(rt, "plan.bin")?;
+    let mut plan = Plan::empty(rt.alloc());
+    let mut list = [Reservation {
+        activity: 0,
+        ticks: 0,
+        period: 0,
+    }; 16];
+    match load(bytes.as_slice(), &mut plan, &mut list) {
+        Ok(count) => {
+            println!(rt, "ok {count}")?;
+            print_plan(rt, &plan)?;
+            print_bars(rt, &plan)?;
+            print_reservations(rt, &list[0..count])
+        }
+        Err(fault) => print_refusal(rt, &fault),
+    }
 }
 
 fn main(rt: LibcRuntime) -> Result<(), AnyError> {

@@ -1,4 +1,5 @@
 // What a plan was filled with, to be read.
+ghost use mathlib.Core.List.{[]};
 ghost use mathlib.Core.Path.{_≡_};
 ghost use Rattle.std.specs.Of.Vec.{vec-items};
 use crate::entry::Entry;
@@ -25,5 +26,14 @@ impl Plan {
         ensures { λ r. ⌜ now r ≡ vec-items (now (self .entry) .entries) ⌝ }
     {
         self.entries.as_slice()
+    }
+
+    /// The plan that owns nothing, as `empty` makes it, with the memory of this one to be filled from.
+    pub fn fresh(&self) -> Plan
+        ensures base { λ r. ⌜ r .base .ticks ≡ 1 ⌝ }
+        ensures depth { λ r. ⌜ r .depth ≡ 0 ⌝ }
+        ensures entries { λ r. ⌜ vec-items (r .entries) ≡ [] ⌝ }
+    {
+        Plan::empty(self.entries.allocator())
     }
 }

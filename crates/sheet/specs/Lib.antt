@@ -1,0 +1,5 @@
+pub mod Format
+pub mod Faults
+pub mod Told
+pub mod Loaded
+pub mod Read
