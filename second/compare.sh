@@ -1,0 +1,33 @@
+#!/bin/sh
+# Compares the proved program `inspect` with the second reader on damaged and random sheets: sh second/compare.sh INSPECT
+# It writes what it did, and ends with status 1 at the first batch in which the two differ.
+set -eu
+inspect=$(cd "$(dirname "$1")" && pwd)/$(basename "$1")
+here=$(cd "$(dirname "$0")" && pwd)
+work=$(mktemp -d)
+trap 'rm -rf "$work"' EXIT
+rustc -O -o "$work/second" "$here/main.rs"
+
+# Runs both on every sheet of a folder and compares the first lines.
+compare() {
+    "$work/second" verdicts "$work/$1" > "$work/$1.second"
+    for sheet in "$work/$1"/*; do
+        cd "$sheet"
+        "$inspect" | head -n 1 > verdict
+        printf '%s %s\n' "${sheet##*/}" "$(cat verdict)"
+    done > "$work/$1.inspect"
+    if ! cmp -s "$work/$1.second" "$work/$1.inspect"; then
+        echo "inspect and the second reader differ on the $1 sheets:"
+        diff "$work/$1.second" "$work/$1.inspect" | head -n 5
+        exit 1
+    fi
+    echo "inspect and the second reader agree on $(wc -l < "$work/$1.second") $1 sheets"
+    cut -d ' ' -f 2-3 "$work/$1.second" | sort | uniq -c | sort -rn | head -n 20 > "$work/$1.kinds"
+    sed 's/^/  /' "$work/$1.kinds"
+}
+
+sh "$here/../examples/make-sheet.sh" < "$here/../examples/example.plan" > "$work/example.bin"
+"$work/second" damage "$work/example.bin" "$work/damaged" 1 > /dev/null
+compare damaged
+"$work/second" random 1 1000 "$work/random"
+compare random
