@@ -1,0 +1,12 @@
+pub mod Numbers
+pub mod Seats
+pub mod Board
+pub mod Ticks
+pub mod Pass
+pub mod Bounds
+pub mod Meaning
+pub mod Refusals
+pub mod Steps
+pub mod Together
+pub mod Promises
+pub mod Levels
