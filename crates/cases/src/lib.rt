@@ -8,6 +8,9 @@ ghost use Rattle.std.specs.declared.option.Option.the-variants.{None};
 ghost use Rattle.std.specs.shelf.Lists.{All};
 ghost use Rattle.plan.specs.Told.{refusal};
 ghost use Rattle.cases.specs.Examples.{exampleBase, exampleDepth, exampleEntries, Holds, examples};
+
+pub mod free;
+
 use plan::entry::Entry;
 use plan::fault::PlanFault;
 use plan::plan::Plan;

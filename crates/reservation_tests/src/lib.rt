@@ -1,5 +1,4 @@
 // Tests of `reservation` at its edges, in a crate of their own so that the check is proved once.
-// They use `plan`, `timetable` and the example plan of `cases`, and bring a timetable of their own.
-pub mod free;
+// They use `plan`, `timetable`, and the example plan and the free timetable of `cases`.
 #[cfg(test)]
 mod tests;

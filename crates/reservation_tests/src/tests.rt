@@ -1,7 +1,7 @@
 // Every refusal, through a plan and through shifts of it, and the edges of the ranges.
-use crate::free::Free;
-use crate::free::FreeTimetable;
 use cases::example_plan;
+use cases::free::Free;
+use cases::free::FreeTimetable;
 use plan::entry::Entry;
 use plan::fault::PlanFault;
 use plan::fault::PlanFaultDebug;

@@ -1,0 +1,2 @@
+mod Onwards
+mod Tickets
