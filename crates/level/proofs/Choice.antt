@@ -98,10 +98,7 @@ module _ (owner : ℤ → Option ℕ) (a : ℕ) (start deadline : ℤ) (n : ℕ)
       ∙ tally-sum (λ k. isAvailable b0 owner a (start +ℤ pos k)) (ownFrom b0 owner a start) (freeFrom b0 owner a start) n
       (λ k l. one-split a (b0 (start +ℤ pos k)) (owner (start +ℤ pos k)))
 
-module _ (owner : ℤ → Option ℕ) (a seat : ℕ) (clock start deadline : ℤ) (n many more own free : ℕ) (b0 b2 : ℤ → Option ℕ)
-    (clock-start : clock ≤ℤ start) (deadline-clock : deadline ≤ℤ (clock +ℤ pos 1024)) (ends : start +ℤ pos n ≡ deadline)
-    (pass : Passed (ownFrom b0 owner a start) (freeFrom b0 owner a start) start n many more own free seat b0 b2)
-    (rest : more ≡ many - tally (ownFrom b0 owner a start) n)
+module _ (owner : ℤ → Option ℕ) (a : ℕ) (start deadline : ℤ) (n many : ℕ) (b0 : ℤ → Option ℕ) (ends : start +ℤ pos n ≡ deadline)
     (enough : many ≤ between (isAvailable b0 owner a) start deadline) where
   abbrev p : ℕ → Bool
   p = ownFrom b0 owner a start
@@ -112,19 +109,20 @@ module _ (owner : ℤ → Option ℕ) (a seat : ℕ) (clock start deadline : ℤ
   apart : (k : ℕ) → p k ≡ true → q k ≡ false
   apart k h = own-not-free a (b0 (start +ℤ pos k)) (owner (start +ℤ pos k)) h
 
-  abbrev chosen : ℤ → Bool
+  -- the first own ones, and then the first free ones
+  abbrev pub chosen : ℤ → Bool
   chosen t = inside start deadline t && both p q many n (natAbs (t -ℤ start))
 
   chosen-in : (t : ℤ) → chosen t ≡ true → (inside start deadline t ≡ true) × (both p q many n (natAbs (t -ℤ start)) ≡ true)
   chosen-in t h = and-parts (inside start deadline t) (both p q many n (natAbs (t -ℤ start))) h
 
-  at-offset : (k : ℕ) → k < n → chosen (start +ℤ pos k) ≡ both p q many n k
+  pub at-offset : (k : ℕ) → k < n → chosen (start +ℤ pos k) ≡ both p q many n k
   at-offset k l =
       ap (λ b. b && both p q many n (natAbs ((start +ℤ pos k) -ℤ start))) (inside-is start deadline (start +ℤ pos k) (omega (arith, ints)) (omega (arith, ints)))
       ∙ ap (both p q many n) (back start k)
 
   -- a tick between the start and the deadline is k after the start
-  by-offset : (P : ℤ → Type 0) → ((k : ℕ) → k < n → P (start +ℤ pos k)) → (t : ℤ) → start ≤ℤ t → t <ℤ deadline → P t
+  pub by-offset : (P : ℤ → Type 0) → ((k : ℕ) → k < n → P (start +ℤ pos k)) → (t : ℤ) → start ≤ℤ t → t <ℤ deadline → P t
   by-offset P h t s d =
       let e = offset start t s in
       subst P e (h (natAbs (t -ℤ start)) (omega (arith, ints)))
@@ -163,25 +161,39 @@ module _ (owner : ℤ → Option ℕ) (a seat : ℕ) (clock start deadline : ℤ
         t (inside-from start deadline t (chosen-in t h .0)) (inside-to start deadline t (chosen-in t h .0)) h;
   }
 
+module _ (owner : ℤ → Option ℕ) (a seat : ℕ) (clock start deadline : ℤ) (n many more own free : ℕ) (b0 b2 : ℤ → Option ℕ)
+    (clock-start : clock ≤ℤ start) (deadline-clock : deadline ≤ℤ (clock +ℤ pos 1024)) (ends : start +ℤ pos n ≡ deadline)
+    (pass : Passed (ownFrom b0 owner a start) (freeFrom b0 owner a start) start n many more own free seat b0 b2)
+    (rest : more ≡ many - tally (ownFrom b0 owner a start) n)
+    (enough : many ≤ between (isAvailable b0 owner a) start deadline) where
+  abbrev p′ : ℕ → Bool
+  p′ = ownFrom b0 owner a start
+
+  abbrev q′ : ℕ → Bool
+  q′ = freeFrom b0 owner a start
+
+  abbrev marked : ℤ → Bool
+  marked = chosen owner a start deadline n many b0 ends enough
+
   outside-same : (t : ℤ) → clock ≤ℤ t → t <ℤ (clock +ℤ pos 1024) → (t <ℤ start) ⊎ ((start +ℤ pos n) ≤ℤ t) → b2 t ≡ b0 t
   outside-same t l h o = pass .there clock t clock-start (omega (arith, ints)) l h o
 
-  within-is : (k : ℕ) → k < n → b2 (start +ℤ pos k) ≡ cond (chosen (start +ℤ pos k)) (Some seat) (b0 (start +ℤ pos k))
+  within-is : (k : ℕ) → k < n → b2 (start +ℤ pos k) ≡ cond (marked (start +ℤ pos k)) (Some seat) (b0 (start +ℤ pos k))
   within-is k l =
       pass .here k l
-      ∙ ap (λ m. cond (picked p many k || picked q m k) (Some seat) (b0 (start +ℤ pos k))) rest
-      ∙ ap (λ b. cond b (Some seat) (b0 (start +ℤ pos k))) (sym (at-offset k l))
+      ∙ ap (λ m. cond (picked p′ many k || picked q′ m k) (Some seat) (b0 (start +ℤ pos k))) rest
+      ∙ ap (λ b. cond b (Some seat) (b0 (start +ℤ pos k))) (sym (at-offset owner a start deadline n many b0 ends enough k l))
 
-  pub marks : MarksFor clock seat chosen b0 b2
+  pub marks : MarksFor clock seat marked b0 b2
   marks t l h =
       by-ltZ t start
-      (λ early. outside-same t l h (inl early) ∙ sym (cond-false (chosen t) (Some seat) (b0 t) (and-left (inside start deadline t) (both p q many n (natAbs (t -ℤ start))) (outside-before start deadline t early))))
+      (λ early. outside-same t l h (inl early) ∙ sym (cond-false (marked t) (Some seat) (b0 t) (and-left (inside start deadline t) (both p′ q′ many n (natAbs (t -ℤ start))) (outside-before start deadline t early))))
       (λ s. by-ltZ t deadline
-      (λ d. by-offset (λ u. b2 u ≡ cond (chosen u) (Some seat) (b0 u)) within-is t s d)
-      (λ late. outside-same t l h (inr (omega (arith, ints))) ∙ sym (cond-false (chosen t) (Some seat) (b0 t) (and-left (inside start deadline t) (both p q many n (natAbs (t -ℤ start))) (outside-after start deadline t late)))))
+      (λ d. by-offset owner a start deadline n many b0 ends enough (λ u. b2 u ≡ cond (marked u) (Some seat) (b0 u)) within-is t s d)
+      (λ late. outside-same t l h (inr (omega (arith, ints))) ∙ sym (cond-false (marked t) (Some seat) (b0 t) (and-left (inside start deadline t) (both p′ q′ many n (natAbs (t -ℤ start))) (outside-after start deadline t late)))))
 
   pub given : Given clock owner a seat start deadline many b0 b2
-  given = (chosen, choice, marks)
+  given = (marked, choice owner a start deadline n many b0 ends enough, marks)
 
 -- what the code tells of the window, whose start it has as a 32-bit number
 module _ (b0 owner : ℤ → Option ℕ) (a n : ℕ) {s start : ℤ} (e : s ≡ start) where

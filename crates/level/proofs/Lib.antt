@@ -2,7 +2,7 @@ mod Window
 pub mod Tallies
 mod Passes
 pub mod Counts
-mod Choice
+pub mod Choice
 pub mod Unique
 pub mod Alones
 pub mod Shares
@@ -11,7 +11,7 @@ pub mod Spares
 pub mod Levels
 mod Sames
 pub mod Once
-mod Refusing
+pub mod Refusing
 mod Seen
 mod Seated
 mod Counted
