@@ -2,10 +2,13 @@
 use Prim.Native.Nat.{ℕ, _*_, _^_, _<_, _≤_}
 use lib.IntN.{ℤ, pos, negsuc}
 use lib.ListN.{length}
+use lib.Signed.{ltZ}
+use mathlib.Core.Bool.{Bool, false, cond, not, _&&_, _||_}
 use mathlib.Core.List.{List, [], _∷_}
 use mathlib.Core.Path.{_≡_}
 use Rattle.std.specs.declared.option.Option.{Option}
 use Rattle.std.specs.declared.option.Option.the-variants.{Some, None}
+use Rattle.level.specs.Ticks.{between, is, isAvailable, Marking}
 use Rattle.plan.specs.declared.entry.Entry.{Entry}
 use Rattle.plan.specs.Entries.{Clashing}
 use Rattle.plan.specs.Owners.{ownerIn}
@@ -59,6 +62,25 @@ abbrev pub AlwaysFree : Type 0
 AlwaysFree =
     (cycle : ℕ) (rs : List Reservation) → 0 < cycle → 0 < length rs → Sound rs → Told (λ _. None) cycle rs (Err (Short 0 0 0))
 
+-- the tick stands in the list
+abbrev pub listed : List ℕ → ℤ → Bool
+listed [] t = false
+listed (x ∷ xs) t = (not (ltZ t (pos x)) && not (ltZ (pos x) t)) || listed xs t
+
+-- the marks of a seat on the listed ticks, over other marks
+abbrev pub marked : ℕ → List ℕ → (ℤ → Option ℕ) → ℤ → Option ℕ
+marked seat xs others t = cond (listed xs t) (Some seat) (others t)
+
+abbrev pub unmarked : ℤ → Option ℕ
+unmarked t = None
+
+-- what a first constraint marks on the example plan, and what a second one marks beside it
+abbrev pub firstTicks : List ℕ
+firstTicks = 244 ∷ 245 ∷ 246 ∷ 247 ∷ 264 ∷ 265 ∷ 266 ∷ 267 ∷ 248 ∷ 249 ∷ 257 ∷ []
+
+abbrev pub secondTicks : List ℕ
+secondTicks = 223 ∷ 233 ∷ 243 ∷ 253 ∷ 263 ∷ 217 ∷ 218 ∷ 219 ∷ 228 ∷ 229 ∷ 258 ∷ []
+
 -- a worked example
 pub data Example : Type 0 where
   -- the owner of a tick of the example plan
@@ -74,6 +96,10 @@ pub data Example : Type 0 where
   window : ℕ → List Entry → ℕ → ℕ → ℕ → Example
   -- a timetable without owners serves nobody
   always-free : Example
+  -- which ticks of the example plan a constraint marks beside other marks: by its activity, start, deadline and estimate
+  marks-for : (ℤ → Option ℕ) → ℕ → ℕ → ℕ → ℕ → List ℕ → Example
+  -- how many ticks of the example plan are available to an activity beside other marks, from a start to before a deadline
+  left-for : (ℤ → Option ℕ) → ℕ → ℕ → ℕ → ℕ → Example
   -- whom a queue under a hold of one repeat names
   held-queue : Example
 
@@ -85,6 +111,9 @@ Holds (no-clash k p l q) = (a b o n : ℕ) → Clashing (entry a k p o n) (entry
 Holds (checked b d es rs r) = Told (ownerIn b es) (b * 2 ^ d) rs r
 Holds (window b es t y n) = owned (ownerIn b es) 0 (pos t) y ≡ n
 Holds always-free = AlwaysFree
+Holds (marks-for before a start deadline estimate xs) =
+    Marking (isAvailable before exampleOwner a) (λ t. is a (exampleOwner t)) (pos start) (pos deadline) estimate (listed xs)
+Holds (left-for before a start deadline n) = between (isAvailable before exampleOwner a) (pos start) (pos deadline) ≡ n
 Holds held-queue = HeldQueueExample
 
 -- negsuc n is the tick -(n + 1)
@@ -113,4 +142,7 @@ examples =
     ∷ checked endsBase 1 endsEntries (one 1 4) (Err (Short 0 1 0))
     ∷ always-free
     ∷ held-queue
+    ∷ marks-for unmarked 0 230 270 11 firstTicks
+    ∷ marks-for (marked 0 firstTicks unmarked) 4 215 265 11 secondTicks
+    ∷ left-for (marked 1 secondTicks (marked 0 firstTicks unmarked)) 0 225 270 6
     ∷ []

@@ -1,5 +1,6 @@
 // Worked examples: a plan that a person can follow on paper, and what the definitions say of it.
-// It uses every layer of which it has an example: `timetable`, `plan`, `reservation` and `spare`.
+// It uses every layer of which it has an example: `timetable`, `plan`, `reservation`, `spare` and
+// `level`.
 ghost use lib.ListN.{length};
 ghost use mathlib.Core.Path.{_≡_};
 ghost use Rattle.std.specs.Of.Vec.{vec-items};
@@ -81,7 +82,7 @@ pub fn example_plan(heap: Global) -> Result<Plan, PlanFault>
 fn example_count() -> usize
     ensures { λ r. ⌜ r ≡ length examples ⌝ }
 {
-    22
+    25
 }
 
 /// How many worked examples there are. That each of them holds is the theorem on its contract.
