@@ -1,4 +1,4 @@
--- What the list of a level's calls says of the level, and what holds of its marks. Assumes nothing.
+-- What the history of a level says of the level, and what holds of its marks.
 use mathlib.Core.Path.{_≡_, refl, sym, _∙_, ap, subst}
 use mathlib.Core.Bool.{Bool, true, false, cond, _&&_}
 use mathlib.Core.List.{List, [], _∷_, _++_}

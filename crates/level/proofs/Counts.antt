@@ -1,4 +1,4 @@
--- Ticks counted from the first one on. Assumes nothing.
+-- Ticks counted from the first one on.
 use mathlib.Core.Path.{_≡_, refl, sym, _∙_, ap, subst}
 use mathlib.Core.Bool.{Bool, true, false, cond, _&&_}
 use mathlib.Core.Logic.{_⊎_, inl, inr, ⊎-elim}

@@ -1,4 +1,4 @@
--- A constraint has run what it callOf for when the clock is at its deadline. Assumes nothing.
+-- A constraint has run what it asked for when the clock is at its deadline.
 use mathlib.Core.Path.{_≡_, refl, sym, _∙_, ap, subst}
 use mathlib.Core.Bool.{Bool, true, false, cond, _&&_}
 use mathlib.Core.List.{List, [], _∷_, _++_}
@@ -31,7 +31,7 @@ use Rattle.level.proofs.Shares.{last-call, when-ready}
 abbrev has : Meaning → ℕ → ℤ → Bool
 has m s u = is s (m .marks u)
 
--- the constraint of the seat s: what it has run and its marks to come are what it callOf for
+-- the constraint of the seat s: what it has run and its marks to come are what it asked for
 record Due (m : Meaning) (s a : ℕ) (t d : ℤ) (e c : ℕ) : Type 0 where
   pub below : a < 16
   pub held : Constraint

@@ -22,7 +22,8 @@ use Rattle.level.specs.Seats.{noSeat, taken, handed}
 use Rattle.level.specs.Ticks.{between, isAvailable, Given}
 use Rattle.level.specs.Meaning.{Constraint, Meaning, toBegin, began, ended, left, collected, refused}
 use Rattle.level.specs.Steps.{Step, Beside, Handed, Began, Ended}
-use Rattle.level.specs.Levels.{meaning, seen, seatAt, heldOf, Reseat, Freed, TicketIsOut, TicketIsLeft, Fine}
+use Rattle.level.specs.Levels.{meaning, seen, seatAt, heldOf}
+use Rattle.level.specs.Parts.{Reseat, Freed, TicketIsOut, TicketIsLeft, Fine}
 use Rattle.level.proofs.Refusing.{end-sound, leave-sound, collect-sound, fine-sound, fine-few}
 use Rattle.level.proofs.Seated.{inUse, seat-at, seat-set, seat-unset}
 use Rattle.level.proofs.Seen.{seen-gone, seen-else, count-seen, chosen-seen, marks-seen}

@@ -18,7 +18,8 @@ use Rattle.level.specs.Ticks.{between}
 use Rattle.level.specs.Meaning.{Constraint, Meaning, Event, toWake, toBlock, toBegin, toEnd, toLeave, toCollect, toUsed, toTick}
 use Rattle.level.specs.Refusals.{Wrong, Sound, Refused, available, NotOut, NoneLeft, at-end, wake-whom, block-whom, used-whom, begin-whom, for-nothing, early, backward, far, no-seat, in-use, too-few, end-foreign, end-not-out, leave-foreign, leave-not-out, collect-where, collect-none}
 use Rattle.level.specs.Steps.{Step}
-use Rattle.level.specs.Levels.{Called, Fine}
+use Rattle.level.specs.Levels.{Called}
+use Rattle.level.specs.Parts.{Fine}
 use Rattle.level.proofs.Counts.{none-some}
 use Rattle.level.proofs.Levels.{goes}
 use Rattle.level.proofs.Once.{only}

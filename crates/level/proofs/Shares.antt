@@ -1,4 +1,4 @@
--- The holder runs its share. Assumes nothing.
+-- The holder runs its share.
 use mathlib.Core.Path.{_≡_, refl, sym, _∙_, ap, subst}
 use mathlib.Core.Bool.{Bool, true, false, cond}
 use mathlib.Core.List.{List, [], _∷_, _++_}

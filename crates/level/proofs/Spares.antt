@@ -1,4 +1,4 @@
--- Everybody who is ready gets its turn of the spare ticks. Assumes nothing.
+-- Everybody who is ready gets its turn of the spare ticks.
 use mathlib.Core.Path.{_≡_, refl, sym, _∙_, ap, subst}
 use mathlib.Core.Bool.{Bool, true, false, cond, _&&_}
 use mathlib.Core.List.{List, [], _∷_, _++_}

@@ -21,7 +21,8 @@ use Rattle.level.specs.Ticks.{one, is}
 use Rattle.level.specs.Meaning.{Constraint, Meaning, ticked}
 use Rattle.level.specs.Steps.{Step, By, ByMark, ByRule, Reseated, oneMoreRun}
 use Rattle.level.specs.Promises.{isFor}
-use Rattle.level.specs.Levels.{meaning, heldOf, RunnerOf, GivenTo, Advanced}
+use Rattle.level.specs.Levels.{meaning, heldOf}
+use Rattle.level.specs.Parts.{RunnerOf, GivenTo, Advanced}
 use Rattle.level.proofs.Refusing.{tick-sound}
 use Rattle.level.proofs.Seated.{inUse, seat-at, more-at}
 use Rattle.level.proofs.Seen.{seen-here, seen-spent, seen-others}

@@ -1,4 +1,4 @@
--- Within 1024 ticks no two have one place.
+-- Within 1024 ticks no two have one cell.
 use mathlib.Core.Path.{_≡_, refl}
 use Prim.Native.Nat.{ℕ, zero, suc, _+_, _*_, _<_, _≤_}
 use native.Mathlib.Omega.{arith}

@@ -10,3 +10,4 @@ pub mod Steps
 pub mod Together
 pub mod Promises
 pub mod Levels
+pub mod Parts

@@ -8,7 +8,7 @@ ghost use Rattle.std.specs.Orderings.{When};
 ghost use Rattle.level.specs.Seats.{noSeat, oneMore};
 ghost use Rattle.level.specs.Ticks.{one, is};
 ghost use Rattle.level.specs.Promises.{isFor};
-ghost use Rattle.level.specs.Levels.{Advanced, SmallLetter, SmallRunner, RanRoom, UsedRoom};
+ghost use Rattle.level.specs.Parts.{Advanced, SmallLetter, SmallRunner, RanRoom, UsedRoom};
 use crate::inner::Inner;
 use crate::seat::Seat;
 use crate::ticked::Letter;

@@ -1,7 +1,8 @@
 // Constraints begin.
 ghost use Prim.Native.Nat.{ℕ};
 ghost use lib.IntN.{ℤ};
-ghost use Rattle.level.specs.Levels.{meaning, Calls, Fault, beginEvent};
+ghost use Rattle.level.specs.Levels.{meaning, Calls, beginEvent};
+ghost use Rattle.level.specs.Parts.{Fault};
 use crate::level::Level;
 use crate::marking::give;
 use crate::refusal::Refusal;

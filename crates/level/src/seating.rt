@@ -6,7 +6,8 @@ ghost use mathlib.Core.Bool.{true, false};
 ghost use mathlib.Core.Path.{_≡_};
 ghost use Rattle.std.specs.Orderings.{When};
 ghost use Rattle.level.specs.Seats.{noSeat, taken, handed};
-ghost use Rattle.level.specs.Levels.{Reseat, Freed, TicketIsOut, TicketIsInvalid, TicketIsLeft, NoTicketIsLeft, seatAt};
+ghost use Rattle.level.specs.Levels.{seatAt};
+ghost use Rattle.level.specs.Parts.{Reseat, Freed, TicketIsOut, TicketIsInvalid, TicketIsLeft, NoTicketIsLeft};
 use crate::inner::Inner;
 use crate::ticket::Ticket;
 

@@ -1,2 +1,3 @@
 mod Onwards
+mod Rides
 mod Tickets

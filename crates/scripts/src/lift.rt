@@ -1,6 +1,8 @@
 // A lift, which asks for the ticks of a ride before it moves.
 ghost use Prim.Native.Nat.{ℕ};
 ghost use lib.IntN.{ℤ};
+ghost use Rattle.level.specs.Levels.{meaning};
+ghost use Rattle.scripts.specs.Outcomes.{Ridden};
 ghost use Rattle.scripts.specs.Plays.{LevelPlays};
 use crate::outcome::Outcome;
 use crate::outcome::finish;
@@ -25,7 +27,8 @@ pub fn ride<T: Timetable, R: SpareRule>(
     needed: u16,
     length: u16,
 ) -> Outcome
-    ensures { λ _. ⌜ LevelPlays (T·Timetable .owner) (T·Timetable .cycle) (R·SpareRule .distance) (R·SpareRule .patience) (now (level .entry)) (now (level .exit)) ⌝ }
+    ensures done { λ r. ⌜ ((deadline : ℤ) × Ridden (meaning (T·Timetable .owner) (T·Timetable .cycle) (R·SpareRule .distance) (R·SpareRule .patience) (now (level .entry))) seat lift needed deadline r (meaning (T·Timetable .owner) (T·Timetable .cycle) (R·SpareRule .distance) (R·SpareRule .patience) (now (level .exit)))) ⌝ }
+    ensures plays { λ _. ⌜ LevelPlays (T·Timetable .owner) (T·Timetable .cycle) (R·SpareRule .distance) (R·SpareRule .patience) (now (level .entry)) (now (level .exit)) ⌝ }
 {
     let start = level.clock();
     let deadline = start.saturating_add(i32::from(length));

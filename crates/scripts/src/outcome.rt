@@ -1,6 +1,8 @@
 // How a script with a ticket ends.
 ghost use Prim.Native.Nat.{ℕ};
 ghost use lib.IntN.{ℤ};
+ghost use Rattle.level.specs.Levels.{meaning};
+ghost use Rattle.scripts.specs.Outcomes.{Finished};
 ghost use Rattle.scripts.specs.Plays.{LevelPlays};
 use level::level::Level;
 use level::refusal::Refusal;
@@ -20,7 +22,8 @@ pub enum Outcome {
 
 /// Ends the constraint of the ticket.
 pub fn finish<T: Timetable, R: SpareRule>(level: &mut Level<T, R>, ticket: Ticket) -> Outcome
-    ensures { λ _. ⌜ LevelPlays (T·Timetable .owner) (T·Timetable .cycle) (R·SpareRule .distance) (R·SpareRule .patience) (now (level .entry)) (now (level .exit)) ⌝ }
+    ensures done { λ r. ⌜ Finished (meaning (T·Timetable .owner) (T·Timetable .cycle) (R·SpareRule .distance) (R·SpareRule .patience) (now (level .entry))) ticket r (meaning (T·Timetable .owner) (T·Timetable .cycle) (R·SpareRule .distance) (R·SpareRule .patience) (now (level .exit))) ⌝ }
+    ensures plays { λ _. ⌜ LevelPlays (T·Timetable .owner) (T·Timetable .cycle) (R·SpareRule .distance) (R·SpareRule .patience) (now (level .entry)) (now (level .exit)) ⌝ }
 {
     match level.end(ticket) {
         Ok(ran) => Outcome::Ended { ran },

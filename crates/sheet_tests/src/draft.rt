@@ -141,3 +141,12 @@ pub fn deep_entries(heap: Global, count: u16) -> Result<Vec<Entry>, AllocError> 
     }
     Ok(entries)
 }
+
+// A reservation for every activity, which the 120 entries above serve.
+pub fn all_reservations(heap: Global) -> Result<Vec<Reservation>, AllocError> {
+    let mut list = Vec::new(heap);
+    for activity in 0..16u8 {
+        list.push(reserve(activity, 16, 2048))?;
+    }
+    Ok(list)
+}

@@ -1,4 +1,5 @@
 // Each refusal, on a plan and a list that were filled before, and the edges of what is taken.
+use crate::draft::all_reservations;
 use crate::draft::changed;
 use crate::draft::deep_entries;
 use crate::draft::entry;
@@ -124,11 +125,14 @@ fn fewest_and_most_entries_are_taken(rt: LibcRuntime) -> Result<(), Fail> {
 #[test]
 fn sixteen_reservations_are_taken(rt: LibcRuntime) -> Result<(), Fail> {
     let heap = rt.alloc();
-    let mut list = [reserve(0, 16, 2048); 16];
-    for i in 0..16usize {
-        list[i] = reserve(i as u8, 16, 2048);
-    }
-    taken(heap, deep_entries(heap, 120)?.as_slice(), &list, 1536)
+    let list = all_reservations(heap)?;
+    check_eq(list.len(), 16)?;
+    taken(
+        heap,
+        deep_entries(heap, 120)?.as_slice(),
+        list.as_slice(),
+        1536,
+    )
 }
 
 #[test]
