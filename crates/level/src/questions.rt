@@ -78,4 +78,18 @@ impl<T: Timetable, R: SpareRule> Level<T, R> {
         }
         self.inner.board.holder_at(t)
     }
+
+    /// The timetable that the level was opened with.
+    pub fn timetable(&self) -> &T
+        ensures { λ r. ⌜ now r ≡ now (self .entry) .timetable ⌝ }
+    {
+        &self.timetable
+    }
+
+    /// The spare rule, as it stands now.
+    pub fn rule(&self) -> &R
+        ensures { λ r. ⌜ now r ≡ now (self .entry) .rule ⌝ }
+    {
+        &self.rule
+    }
 }

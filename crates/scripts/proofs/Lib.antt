@@ -1,3 +1,4 @@
 mod Onwards
 mod Rides
+mod Rowing
 mod Tickets

@@ -1,3 +1,4 @@
 pub mod Plays
 pub mod Stories
 pub mod Outcomes
+pub mod Rows

@@ -33,3 +33,11 @@ DoorOpened m s a t e d (Err r) n = Step m (refused (toBegin s a t e d) r) n
 abbrev pub DoorClosed : Meaning → ℕ → Result ℕ Refusal → Meaning → Type 0
 DoorClosed m s (Ok ran) n = (k : Meaning) × (x : Ticket) × Step m (collected s x) k × Step k (ended x ran) n
 DoorClosed m s (Err r) n = Step m (refused (toCollect s) r) n
+
+-- a way out at the seat s and a way back at the seat b, which starts at the deadline of the first and is begun before that is finished
+pub data Shuttled (m : Meaning) (s b a e : ℕ) (o p : Outcome) (n : Meaning) : Type 0 where
+  not-at-all : {t d : ℤ} {r : Refusal} → Step m (refused (toBegin s a t e d) r) n → o ≡ Missing r → p ≡ Missing r → Shuttled m s b a e o p n
+  out-only : {t d u : ℤ} {k l : Meaning} {x : Ticket} {r : Refusal} →
+      Step m (began s a t e d x) k → Step k (refused (toBegin b a d e u) r) l → Finished l x o n → p ≡ Missing r → Shuttled m s b a e o p n
+  out-and-back : {t d u : ℤ} {k l : Meaning} (j : Meaning) {x y : Ticket} →
+      Step m (began s a t e d x) k → Step k (began b a d e u y) l → Finished l x o j → Finished j y p n → Shuttled m s b a e o p n

@@ -5,4 +5,5 @@ pub mod door;
 pub mod lift;
 pub mod outcome;
 pub mod platform;
+pub mod row;
 pub mod side_by_side;

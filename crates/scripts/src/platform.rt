@@ -1,6 +1,8 @@
 // A platform, which begins its way back before its way out is over.
 ghost use Prim.Native.Nat.{ℕ};
 ghost use lib.IntN.{ℤ};
+ghost use Rattle.level.specs.Levels.{meaning};
+ghost use Rattle.scripts.specs.Outcomes.{Shuttled};
 ghost use Rattle.scripts.specs.Plays.{LevelPlays};
 use crate::outcome::Outcome;
 use crate::outcome::finish;
@@ -18,7 +20,8 @@ pub fn shuttle<T: Timetable, R: SpareRule>(
     needed: u16,
     length: u16,
 ) -> (Outcome, Outcome)
-    ensures { λ _. ⌜ LevelPlays (T·Timetable .owner) (T·Timetable .cycle) (R·SpareRule .distance) (R·SpareRule .patience) (now (level .entry)) (now (level .exit)) ⌝ }
+    ensures done { λ r. ⌜ Shuttled (meaning (T·Timetable .owner) (T·Timetable .cycle) (R·SpareRule .distance) (R·SpareRule .patience) (now (level .entry))) out back platform needed (r .0) (r .1) (meaning (T·Timetable .owner) (T·Timetable .cycle) (R·SpareRule .distance) (R·SpareRule .patience) (now (level .exit))) ⌝ }
+    ensures plays { λ _. ⌜ LevelPlays (T·Timetable .owner) (T·Timetable .cycle) (R·SpareRule .distance) (R·SpareRule .patience) (now (level .entry)) (now (level .exit)) ⌝ }
 {
     let start = level.clock();
     let turn = start.saturating_add(i32::from(length));
