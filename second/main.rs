@@ -1,4 +1,4 @@
-// A second reader of plan sheets, written from docs/ alone and sharing nothing with the crates.
+// A second reader of plan sheets and player of rehearsal scripts, written from docs/ alone and sharing nothing with the crates.
 //
 //   second                            read plan.bin here and print the verdict on it
 //   second verdicts FOLDER            print the verdict on FOLDER/*/plan.bin, a line for each, in order
@@ -6,8 +6,15 @@
 //                                     each with its sum left as it was and with its sum mended
 //   second random SEED COUNT FOLDER   write COUNT good and bad sheets into FOLDER
 //
+//   second rehearse                   play the script on standard input on plan.bin here, and print its rows
+//   second scripts SEED COUNT FOLDER  write COUNT sheets with scripts beside them into FOLDER
+//   second rows FOLDER                write FOLDER/*/second.rows, the rows of each script there
+//
 // A verdict is `ok N` with N reservations, or `LAYER NUMBER PLACE`.
+mod rehearsal;
+
 use std::fs;
+use std::io::Read;
 use std::path::Path;
 use std::process::exit;
 
@@ -142,7 +149,7 @@ fn check(table: &[u64], list: &[Reservation]) -> Result<(), String> {
     Ok(())
 }
 
-fn examine(sheet: &[u8]) -> Result<usize, String> {
+fn examine(sheet: &[u8]) -> Result<(usize, Vec<u64>), String> {
     if ![512, 1024, 1536].contains(&sheet.len()) {
         return refuse("sheet", 31, 0);
     }
@@ -183,28 +190,33 @@ fn examine(sheet: &[u8]) -> Result<usize, String> {
         .collect();
     let table = owners(two(sheet, 2), sheet[4].into(), &entries)?;
     check(&table, &list)?;
-    Ok(list.len())
+    Ok((list.len(), table))
+}
+
+// The owners of a cycle of ticks from 0 on, where the sheet is accepted: 16 is nobody.
+pub fn owners_of(sheet: &[u8]) -> Option<Vec<u64>> {
+    examine(sheet).ok().map(|(_, table)| table)
 }
 
 fn verdict(sheet: &[u8]) -> String {
     match examine(sheet) {
-        Ok(n) => format!("ok {n}"),
+        Ok((n, _)) => format!("ok {n}"),
         Err(refusal) => refusal,
     }
 }
 
 // Numbers that are the same for the same seed.
-struct Seeded(u64);
+pub struct Seeded(u64);
 
 impl Seeded {
-    fn below(&mut self, n: u64) -> u64 {
+    pub fn below(&mut self, n: u64) -> u64 {
         self.0 ^= self.0 << 13;
         self.0 ^= self.0 >> 7;
         self.0 ^= self.0 << 17;
         (self.0 >> 11) % n
     }
 
-    fn one_in(&mut self, n: u64) -> bool {
+    pub fn one_in(&mut self, n: u64) -> bool {
         self.below(n) == 0
     }
 }
@@ -357,6 +369,36 @@ fn verdicts(folder: &str) -> std::io::Result<()> {
     Ok(())
 }
 
+fn write_scripts(rng: &mut Seeded, count: usize, folder: &str) -> std::io::Result<()> {
+    for number in 0..count {
+        let mut sheet = random_sheet(rng);
+        // mostly sheets that are accepted
+        for _ in 0..20 {
+            if examine(&sheet).is_ok() || rng.one_in(20) {
+                break;
+            }
+            sheet = random_sheet(rng);
+        }
+        save(folder, number, &sheet)?;
+        let place = Path::new(folder).join(format!("{number:06}"));
+        fs::write(place.join("script"), rehearsal::random_script(rng))?;
+    }
+    Ok(())
+}
+
+fn write_rows(folder: &str) -> std::io::Result<()> {
+    for place in fs::read_dir(folder)? {
+        let path = place?.path();
+        let rows = rehearsal::rehearse(&fs::read(path.join("plan.bin"))?, &fs::read(path.join("script"))?);
+        fs::write(path.join("second.rows"), rows)?;
+    }
+    Ok(())
+}
+
+fn seeded(seed: &str) -> Seeded {
+    Seeded(seed.parse::<u64>().unwrap_or(1).wrapping_mul(2).wrapping_add(0x2545_f491_4f6c_dd1d))
+}
+
 fn run(args: &[&str]) -> std::io::Result<()> {
     match args {
         [] => println!("{}", verdict(&fs::read("plan.bin")?)),
@@ -365,12 +407,19 @@ fn run(args: &[&str]) -> std::io::Result<()> {
             println!("{}", damage(&fs::read(sheet)?, folder, values.parse().unwrap_or(1))?);
         }
         ["random", seed, count, folder] => {
-            let mut rng = Seeded(seed.parse::<u64>().unwrap_or(1).wrapping_mul(2).wrapping_add(0x2545_f491_4f6c_dd1d));
+            let mut rng = seeded(seed);
             for number in 0..count.parse().unwrap_or(100) {
                 let sheet = random_sheet(&mut rng);
                 save(folder, number, &sheet)?;
             }
         }
+        ["rehearse"] => {
+            let mut script = Vec::new();
+            std::io::stdin().read_to_end(&mut script)?;
+            print!("{}", rehearsal::rehearse(&fs::read("plan.bin")?, &script));
+        }
+        ["scripts", seed, count, folder] => write_scripts(&mut seeded(seed), count.parse().unwrap_or(100), folder)?,
+        ["rows", folder] => write_rows(folder)?,
         _ => {
             eprintln!("see the head of second/main.rs");
             exit(2);
