@@ -1,8 +1,10 @@
 #!/bin/sh
-# Compares the proved program `inspect` with the second reader on damaged and random sheets: sh second/compare.sh INSPECT
+# Compares the proved programs with the second ones, on damaged and random sheets and on random scripts:
+# sh second/compare.sh INSPECT REHEARSE
 # It writes what it did, and ends with status 1 at the first batch in which the two differ.
 set -eu
 inspect=$(cd "$(dirname "$1")" && pwd)/$(basename "$1")
+rehearse=$(cd "$(dirname "$2")" && pwd)/$(basename "$2")
 here=$(cd "$(dirname "$0")" && pwd)
 work=$(mktemp -d)
 trap 'rm -rf "$work"' EXIT
@@ -31,3 +33,17 @@ sh "$here/../examples/make-sheet.sh" < "$here/../examples/example.plan" > "$work
 compare damaged
 "$work/second" random 1 1000 "$work/random"
 compare random
+
+# Plays every script of a folder and compares all rows.
+"$work/second" scripts 1 400 "$work/scripts"
+"$work/second" rows "$work/scripts"
+for place in "$work/scripts"/*; do
+    cd "$place"
+    "$rehearse" < script > rehearse.rows
+    if ! cmp -s second.rows rehearse.rows; then
+        echo "rehearse and the second player differ on a script:"
+        diff second.rows rehearse.rows | head -n 5
+        exit 1
+    fi
+done
+echo "rehearse and the second player agree on $(cat "$work"/scripts/*/second.rows | wc -l) rows of $(ls "$work/scripts" | wc -l) scripts"
