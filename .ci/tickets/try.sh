@@ -6,7 +6,11 @@ set -eu
 cd "$(dirname "$0")/../.."
 work=$(mktemp -d)
 trap 'rm -rf "$work"' EXIT
-cp -r crates crates.txt target "$work"
+cp -r crates crates.txt "$work"
+mkdir "$work/target"
+for part in rlib stamp log; do
+    cp -r "target/$part" "$work/target"
+done
 for edit in .ci/tickets/*.edit; do
     file=crates/scripts/$(sed -n 's/^file: //p' "$edit")
     awk -v old="$(sed -n 's/^old: //p' "$edit")" -v new="$(sed -n 's/^new: //p' "$edit")" '
