@@ -1,5 +1,7 @@
 // Timetables drawn for a person: a line of bars for an owner, one character for each tick.
 // It uses `clock` and `timetable`, and draws any timetable.
+#![tactic(auto)]
+
 ghost use Rattle.std.specs.Prelude.{◌≡◌, ℕ, ◌+◌, ◌*◌, ◌<◌, ◌≤◌, length, ℤ, IfOk, string_bytes, Decides, MatchOption};
 ghost use Rattle.bars.specs.Lines.{mark, Shows, Column, Line};
 

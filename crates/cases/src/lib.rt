@@ -1,6 +1,8 @@
 // Worked examples: a plan that a person can follow on paper, and what the definitions say of it.
 // It uses every layer of which it has an example: `timetable`, `plan`, `reservation`, `spare` and
 // `level`.
+#![tactic(auto)]
+
 ghost use Rattle.std.specs.Prelude.{◌≡◌, length, IfOk, None};
 ghost use Rattle.std.specs.List.{AllByRecursion as All};
 ghost use Rattle.plan.specs.Told.{refusal};

@@ -1,5 +1,7 @@
 // Signed times, divided by rounding toward minus infinity, so that a table reads the same on both sides of zero.
 // The lowest layer: it uses no other crate.
+#![tactic(auto)]
+
 ghost use Rattle.std.specs.Prelude.{◌≡◌, ℕ, ◌<◌, ◌≤◌, ℤ, ◌-ℤ◌, MatchOption};
 ghost use Rattle.clock.specs.Floor.{floor_div, floor_mod, Lies};
 

@@ -1,6 +1,8 @@
 // The program `inspect`: reads the sheet `plan.bin` from the folder it runs in, and says what it holds or why it is refused.
 // The first line is for tools, what follows for a person. It is thin: what loading does is proved in `sheet`, and what a line
 // of bars holds in `bars`.
+#![tactic(auto)]
+
 use anyhow::anyhow;
 use bars::{line, owns_any};
 use plan::plan::Plan;

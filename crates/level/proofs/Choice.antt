@@ -125,10 +125,10 @@ module _ (owner : ℤ → Option ℕ) (a : ℕ) (start deadline : ℤ) (n many :
   many_is : tally (both p q many n) n ≡ many
   many_is = let e = available_sum owner a start deadline n ends b0 in tally_both p q many n apart (omega arith)
 
-  first-is :
+  first_is :
       (j k : ℕ) → j < n → k < n → chosen (start +ℤ pos j) ≡ true → is_available b0 owner a (start +ℤ pos k) ≡ true → chosen (start +ℤ pos k) ≡ false →
       Before (λ t. is a (owner t)) (start +ℤ pos j) (start +ℤ pos k)
-  first-is j k jn kn hj hk no-k =
+  first_is j k jn kn hj hk no-k =
       ⊎_elim
       (λ x. inl (own_is a (b0 (start +ℤ pos j)) (owner (start +ℤ pos j)) x.0, free_is a (b0 (start +ℤ pos k)) (owner (start +ℤ pos k)) x.1))
       (λ y. ⊎_elim
@@ -149,7 +149,7 @@ module _ (owner : ℤ → Option ℕ) (a : ℕ) (start deadline : ℤ) (n many :
     first = λ t u h s d av no-u.
         by_offset (λ x. chosen x ≡ true → Before (λ y. is a (owner y)) x u)
         (λ j jn hj. by_offset (λ x. is_available b0 owner a x ≡ true → chosen x ≡ false → Before (λ y. is a (owner y)) (start +ℤ pos j) x)
-        (λ k kn hk no-k. first-is j k jn kn hj hk no-k) u s d av no-u)
+        (λ k kn hk no-k. first_is j k jn kn hj hk no-k) u s d av no-u)
         t (inside_from start deadline t (chosen_in t h).0) (inside_to start deadline t (chosen_in t h).0) h;
   }
 
@@ -195,20 +195,20 @@ module _ (b0 owner : ℤ → Option ℕ) (a n : ℕ) {s start : ℤ} (e : s ≡ 
   pub free_at : {r : ℕ} → r ≡ tally (free_from b0 owner a s) n → r ≡ tally (free_from b0 owner a start) n
   free_at h = h ∙ ap (λ x. tally (free_from b0 owner a x) n) e
 
-  pub pass-at :
+  pub pass_at :
       {many more own free seat : ℕ} {b b' : ℤ → Option ℕ} →
       Passed (own_from b0 owner a s) (free_from b0 owner a s) s n many more own free seat b b' → Passed (own_from b0 owner a start) (free_from b0 owner a start) start n many more own free seat b b'
-  pass-at {many} {more} {own} {free} {seat} {b} {b'} h =
+  pass_at {many} {more} {own} {free} {seat} {b} {b'} h =
       subst (λ x. Passed (own_from b0 owner a x) (free_from b0 owner a x) x n many more own free seat b b') e h
 
 -- the pass at its end
-pub pass-end :
+pub pass_end :
     (b0 owner : ℤ → Option ℕ) (a : ℕ) {s start : ℤ} → s ≡ start → {k n : ℕ} → k ≡ n → {many more own free seat : ℕ} {b b' : ℤ → Option ℕ} →
     Passed (own_from b0 owner a s) (free_from b0 owner a s) s k many more own free seat b b' → Passed (own_from b0 owner a start) (free_from b0 owner a start) start n many more own free seat b b'
-pass-end b0 owner a {s} {start} e {k} {n} f {many} {more} {own} {free} {seat} {b} {b'} h =
-    pass-at b0 owner a n e (subst (λ x. Passed (own_from b0 owner a s) (free_from b0 owner a s) s x many more own free seat b b') f h)
+pass_end b0 owner a {s} {start} e {k} {n} f {many} {more} {own} {free} {seat} {b} {b'} h =
+    pass_at b0 owner a n e (subst (λ x. Passed (own_from b0 owner a s) (free_from b0 owner a s) s x many more own free seat b b') f h)
 
-pub sum-at :
+pub sum_at :
     (owner : ℤ → Option ℕ) (a : ℕ) (start deadline : ℤ) (n : ℕ) → start +ℤ pos n ≡ deadline → (b0 : ℤ → Option ℕ) {own free : ℕ} →
     own ≡ tally (own_from b0 owner a start) n → free ≡ tally (free_from b0 owner a start) n → own + free ≡ between (is_available b0 owner a) start deadline
-sum-at owner a start deadline n ends b0 {own} {free} eo ef = let s = available_sum owner a start deadline n ends b0 in omega arith
+sum_at owner a start deadline n ends b0 {own} {free} eo ef = let s = available_sum owner a start deadline n ends b0 in omega arith

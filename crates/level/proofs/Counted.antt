@@ -37,9 +37,9 @@ ran_more c d e xs ys p w b s l =
     (λ q. let x : (get_or ys s no_seat).ran ≡ (get_or xs s no_seat).ran = ap (λ z. z.ran) (w s ∙ cond-false (p s) _ _ q) in omega (arith, ints))
     (cases_Bool (p s))
 
-pub used-more :
+pub used_more :
     (c d : ℤ) → d ≡ c +ℤ pos 1 → (xs ys : List ℕ) (o : Option ℕ) → ((a : ℕ) → get_or ys a 0 ≡ one (is a o) + get_or xs a 0) → UsedBound c xs → UsedBound d ys
-used-more c d e xs ys o w b a l =
+used_more c d e xs ys o w b a l =
     let k = b a l in
     let x = w a in
     let y = one_le (is a o) in

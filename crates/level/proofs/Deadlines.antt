@@ -15,7 +15,7 @@ use Rattle.level.specs.Together.{Opening, Entry, opened, called, Opens, Alone, f
 use Rattle.level.specs.Promises.{ready_in, run, ran, over, ends, is_for, constrained, passes, by, count, When, ReadyAt, Unended, Deadline, EndCount, clock_in}
 use Rattle.level.proofs.Counts.{along, along_ext, along_skip, tally_along, offset, is_some, some_is, not_some, some_or_not, none_some}
 use Rattle.level.proofs.Alones.{step_kept, step_clock, ready_is, clock_is, earlier_level, Fits, FitsAt, fits, step_seat, begin_from, begin_to, begin_whom_below}
-use Rattle.level.proofs.Shares.{last-call, when_ready}
+use Rattle.level.proofs.Shares.{last_call, when_ready}
 
 -- seat s has the tick
 abbrev has : Meaning → ℕ → ℤ → Bool
@@ -66,30 +66,30 @@ calm m n s a t d e c ec same sum k at =
     omega arith
 
 -- at a tick: it is answered c for the seat exactly where the seat has the mark
-tick-right :
+tick_right :
     (l : Letter) (o : Option ℕ) (m n : Meaning) → By m l o n → (s a : ℕ) → a < 16 → (h : Constraint) → m.seats s ≡ Some h → h.activity ≡ a →
     (m.marks m.clock ≡ Some s → m.ready a ≡ true) → is_for s l && is a o ≡ has m s m.clock
-tick-right (Constrained j) None m n b s a lt h e ea rd = absurd b
-tick-right (Constrained j) (Some c) m n b s a lt h e ea rd =
+tick_right (Constrained j) None m n b s a lt h e ea rd = absurd b
+tick_right (Constrained j) (Some c) m n b s a lt h e ea rd =
     ⊎_elim
     (λ q.
     let same : b.0.held ≡ h = let x : m.seats s ≡ Some b.0.held = ap m.seats (sym q) ∙ b.0.seat in cc in
     and_from (eqb j s) (eqb c a) (eq-eqb j s q) (eq-eqb c a (b.0.activity ∙ ap (λ x. x.activity) same ∙ ea)) ∙ sym (some_is s (m.marks m.clock) (b.0.mark ∙ ap Some q)))
     (λ q. and_left (eqb j s) (eqb c a) (ne_eqb j s q) ∙ sym (ap (is s) b.0.mark ∙ ne_eqb j s q))
     (cases_eq j s)
-tick-right Reserved None m n b s a lt h e ea rd = absurd b
-tick-right Reserved (Some c) m n b s a lt h e ea rd = sym (ap (is s) b.0.unmarked)
-tick-right Spare None m n b s a lt h e ea rd = absurd b
-tick-right Spare (Some c) m n b s a lt h e ea rd =
+tick_right Reserved None m n b s a lt h e ea rd = absurd b
+tick_right Reserved (Some c) m n b s a lt h e ea rd = sym (ap (is s) b.0.unmarked)
+tick_right Spare None m n b s a lt h e ea rd = absurd b
+tick_right Spare (Some c) m n b s a lt h e ea rd =
     sym (not_some s (m.marks m.clock) (λ q. both_ways _ (ap m.ready (sym ea) ∙ b.0.neither.unmarked s h q e) (rd q)))
-tick-right Idle None m n b s a lt h e ea rd = sym (not_some s (m.marks m.clock) (λ q. both_ways _ (b.0 a) (rd q)))
-tick-right Idle (Some c) m n b s a lt h e ea rd = absurd b
+tick_right Idle None m n b s a lt h e ea rd = sym (not_some s (m.marks m.clock) (λ q. both_ways _ (b.0 a) (rd q)))
+tick_right Idle (Some c) m n b s a lt h e ea rd = absurd b
 
-tick-sum :
+tick_sum :
     (m n : Meaning) (s : ℕ) (d : ℤ) (e c : ℕ) (b : Bool) → n.clock ≡ m.clock +ℤ pos 1 → ((u : ℤ) → (u ≡ m.clock → ⊥) → has n s u ≡ has m s u) →
     b ≡ has m s m.clock → ((k : ℕ) → m.clock +ℤ pos k ≡ d → c + along (has m s) m.clock k ≡ e) →
     (k : ℕ) → n.clock +ℤ pos k ≡ d → (one b + c) + along (has n s) n.clock k ≡ e
-tick-sum m n s d e c b ec same eb sum k at =
+tick_sum m n s d e c b ec same eb sum k at =
     let to : m.clock +ℤ pos (suc k) ≡ d = omega (arith, ints) in
     let x = sum (suc k) to in
     let y : along (has n s) n.clock k ≡ along (has m s) (m.clock +ℤ pos 1) k =
@@ -111,8 +111,8 @@ step_sum (collected j x) m n st fit s a t d e c i un rd = calm m n s a t d e c s
 step_sum (told b u) m n st fit s a t d e c i un rd =
     calm m n s a t d e c (ap (λ x. x.clock) st.2) (λ u. ap (λ x. is s (x.marks u)) st.2) i.sum
 step_sum (ticked f) m n st fit s a t d e c i un rd =
-    tick-sum m n s d e c _ st.1.clock (λ u ne. ap (is s) (st.1.others u ne))
-    (tick-right f.letter f.runner m n st.1.by s a i.below i.held i.seat i.activity
+    tick_sum m n s d e c _ st.1.clock (λ u ne. ap (is s) (st.1.others u ne))
+    (tick_right f.letter f.runner m n st.1.by s a i.below i.held i.seat i.activity
     (λ q.
     let g = fit m.clock s q in
     let same : g.held ≡ i.held = let x = g.seat in let y = i.seat in cc in
@@ -122,10 +122,10 @@ step_sum (ticked f) m n st fit s a t d e c i un rd =
 step_sum (refused q r) m n st fit s a t d e c i un rd =
     calm m n s a t d e c (ap (λ x. x.clock) st.same) (λ u. ap (λ x. is s (x.marks u)) st.same) i.sum
 
-step-due :
+step_due :
     (y : Event) (m n : Meaning) → Step m y n → Fits m → (s a : ℕ) (t d : ℤ) (e c : ℕ) → Due m s a t d e c → is s (over y) ≡ false →
     When (run y) (λ f. t ≤ℤ f.tick → m.ready a ≡ true) → Due n s a t d e (one (passes (constrained s a) (run y)) + c)
-step-due y m n st fit s a t d e c i un rd =
+step_due y m n st fit s a t d e c i un rd =
     let g = step_seat y m n st s i.held i.seat un in
     record {
       below = i.below;
@@ -155,18 +155,18 @@ begun s a t e d x m n st fit = record {
     after = begin_to m s a t e d st.0
 
     -- the seat had no mark
-    had-none : (u : ℤ) → has m s u ≡ false
-    had-none u = not_some s (m.marks u) (λ q. let g = fit u s q in st.0 SeatUnavailable (in_use {h = g.held} g.seat))
+    had_none : (u : ℤ) → has m s u ≡ false
+    had_none u = not_some s (m.marks u) (λ q. let g = fit u s q in st.0 SeatUnavailable (in_use {h = g.held} g.seat))
 
     marked : (u : ℤ) → has n s u ≡ st.1.chosen u
     marked u =
         ⊎_elim
         (λ f. some_is s (n.marks u) (st.1.marks u ∙ cond-true (st.1.chosen u) (Some s) (m.marks u) f) ∙ sym f)
-        (λ f. ap (is s) (st.1.marks u ∙ cond-false (st.1.chosen u) (Some s) (m.marks u) f) ∙ had-none u ∙ sym f)
+        (λ f. ap (is s) (st.1.marks u ∙ cond-false (st.1.chosen u) (Some s) (m.marks u) f) ∙ had_none u ∙ sym f)
         (cases_Bool (st.1.chosen u))
 
-    none-early : (u : ℤ) → u <ℤ t → st.1.chosen u ≡ false
-    none-early u l = ⊎_elim (λ f. absurd (let g = st.1.choice.from u f in omega (arith, ints))) (λ f. f) (cases_Bool (st.1.chosen u))
+    none_early : (u : ℤ) → u <ℤ t → st.1.chosen u ≡ false
+    none_early u l = ⊎_elim (λ f. absurd (let g = st.1.choice.from u f in omega (arith, ints))) (λ f. f) (cases_Bool (st.1.chosen u))
 
     sum : (k : ℕ) → n.clock +ℤ pos k ≡ d → 0 + along (has n s) n.clock k ≡ e
     sum k at =
@@ -179,7 +179,7 @@ begun s a t e d x m n st fit = record {
         let ej : m.clock +ℤ pos j ≡ t = offset m.clock t before in
         let el : t +ℤ pos l ≡ d = offset t d (let af = after in omega (arith, ints)) in
         let x2 : along st.1.chosen m.clock k ≡ along st.1.chosen t l =
-        along_skip st.1.chosen j k l m.clock t ej (omega (arith, ints)) none-early in
+        along_skip st.1.chosen j k l m.clock t ej (omega (arith, ints)) none_early in
         let x3 : along st.1.chosen t l ≡ e = sym (tally_along st.1.chosen t l) ∙ st.1.choice.many in
         omega arith
 
@@ -202,15 +202,15 @@ due (z ∷ later) s a t e d x q q' earlier (next {p} {m} y {n} r st) eq un rd =
     let head : called y m.rule n.rule ≡ z = cc in
     let i = due later s a t e d x q q' earlier r tail un.1 rd.1 in
     let un' : is s (over y) ≡ false = ap (λ v. is s (ends v)) head ∙ un.0 in
-    let here = when_ready (λ f. t ≤ℤ f.tick) y a _ _ (sym (ready_is r a)) (last-call (λ f. t ≤ℤ f.tick) a y m.rule n.rule z later (called (began s a t e d x) q q' ∷ earlier) p eq rd.0) in
+    let here = when_ready (λ f. t ≤ℤ f.tick) y a _ _ (sym (ready_is r a)) (last_call (λ f. t ≤ℤ f.tick) a y m.rule n.rule z later (called (began s a t e d x) q q' ∷ earlier) p eq rd.0) in
     subst (λ v. Due n s a t d e (one (passes (constrained s a) (ran v)) + count (constrained s a) later)) head
-    (step-due y m n st (fits r) s a t d e (count (constrained s a) later) i un' here)
+    (step_due y m n st (fits r) s a t d e (count (constrained s a) later) i un' here)
 
-at-deadline :
+at_deadline :
     (since : List Entry) (s a : ℕ) (t : ℤ) (e : ℕ) (d : ℤ) (x : Ticket) (q q' : Rule) (earlier : List Entry) {k : ℕ} {p : List Entry} {m : Meaning} → Alone k p m →
     p ≡ since ++ (called (began s a t e d x) q q' ∷ earlier) → Unended s since → clock_in p ≡ d →
     ReadyAt (λ f. t ≤ℤ f.tick) a since (called (began s a t e d x) q q' ∷ earlier) → count (constrained s a) since ≡ e
-at-deadline since s a t e d x q q' earlier {k} {p} {m} r eq un at rd =
+at_deadline since s a t e d x q q' earlier {k} {p} {m} r eq un at rd =
     let i = due since s a t e d x q q' earlier r eq un rd in
     let z = i.sum 0 (let c : m.clock ≡ d = clock_is r ∙ at in omega (arith, ints)) in
     omega arith
@@ -219,7 +219,7 @@ pub deadline_kept : {k : ℕ} {p : List Entry} {m : Meaning} → Alone k p m →
 deadline_kept {k} {p} {m} r later since s a t e d x q q' earlier eq un at rd =
     ⊎_elim
     (λ z. absurd (not_first since (called (began s a t e d x) q q') earlier (sym z)))
-    (λ b. at-deadline since s a t e d x q q' earlier b.1 refl un at rd)
+    (λ b. at_deadline since s a t e d x q q' earlier b.1 refl un at rd)
     (earlier_level later (since ++ (called (began s a t e d x) q q' ∷ earlier)) r eq)
 
 -- A constraint has run the ticks that were answered c for it.
@@ -254,11 +254,11 @@ runs (z ∷ later) s a t e d x q q' earlier (next {p} {m} y {n} r st) eq un =
     subst (λ v. Runs n s a (one (passes (constrained s a) (ran v)) + count (constrained s a) later)) head
     (step_runs y m n st s a (count (constrained s a) later) (runs later s a t e d x q q' earlier r tail un.1) un')
 
-ended-runs :
+ended_runs :
     (x : Ticket) (c : ℕ) (u u' : Rule) (during : List Entry) (a : ℕ) (t : ℤ) (e : ℕ) (d : ℤ) (y : Ticket) (q q' : Rule) (earlier : List Entry) {k : ℕ} {p : List Entry} {m : Meaning} → Alone k p m →
     p ≡ called (ended x c) u u' ∷ (during ++ (called (began x.seat a t e d y) q q' ∷ earlier)) → Unended x.seat during → c ≡ count (constrained x.seat a) during
-ended-runs x c u u' during a t e d y q q' earlier (first o) eq un = let z : ◌≡◌ {A = ℕ} 0 1 = cc in absurd (omega arith)
-ended-runs x c u u' during a t e d y q q' earlier (next {p} {m} v {n} r st) eq un =
+ended_runs x c u u' during a t e d y q q' earlier (first o) eq un = let z : ◌≡◌ {A = ℕ} 0 1 = cc in absurd (omega arith)
+ended_runs x c u u' during a t e d y q q' earlier (next {p} {m} v {n} r st) eq un =
     let head : v ≡ ended x c = cc in
     let tail : p ≡ during ++ (called (began x.seat a t e d y) q q' ∷ earlier) = cc in
     let b : Step m (ended x c) n = subst (λ z. Step m z n) head st in
@@ -270,5 +270,5 @@ pub taken_kept : {k : ℕ} {p : List Entry} {m : Meaning} → Alone k p m → En
 taken_kept r later x c u u' during a t e d y q q' earlier eq un =
     ⊎_elim
     (λ z. let f : ◌≡◌ {A = ℕ} 0 1 = cc in absurd (omega arith))
-    (λ b. ended-runs x c u u' during a t e d y q q' earlier b.1 refl un)
+    (λ b. ended_runs x c u u' during a t e d y q q' earlier b.1 refl un)
     (earlier_level later (called (ended x c) u u' ∷ (during ++ (called (began x.seat a t e d y) q q' ∷ earlier))) r eq)

@@ -125,10 +125,10 @@ module _ {T R : Type 0} (owner : T → ℤ → Option ℕ) (cycle : T → ℕ) (
     rule = record { distance = distance l.rule; patience = patience l.rule };
   }
 
-  pub few-step :
+  pub few_step :
       (l : Level T R) (s a : ℕ) (t : ℤ) (e : ℕ) (d : ℤ) (b : Board) (k : ℕ) → Fine (meaning owner cycle distance patience l) s a t e d → k < e →
       k ≡ between (is_available (holder l.inner.board) (owner l.timetable) a) t d → b ≡ l.inner.board →
       Step (meaning owner cycle distance patience l) (refused (to_begin s a t e d) (TooFew k)) (reboarded l b)
-  few-step l s a t e d b k f lt q eb =
+  few_step l s a t e d b k f lt q eb =
       let r = fine_few (meaning owner cycle distance patience l) s a t e d f k (q ∙ sym (count_seen l.inner.clock t d (holder l.inner.board) (owner l.timetable) a f.from f.to f.near)) lt in
       record { wrong = r.wrong; least = r.least; same = ap (reboarded l) eb }

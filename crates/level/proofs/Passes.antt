@@ -23,11 +23,11 @@ left_some many t left e =
 
 -- a tick is taken where one of its kind is still to be had
 takes_is : (k : Kind) (own free m1 t1 m2 t2 : ℕ) → own ≡ m1 - t1 → free ≡ m2 - t2 → takes own free k ≡ ((is_own k && ltb t1 m1) || (is_free k && ltb t2 m2))
-takes_is Own own free m1 t1 m2 t2 e f = left_some m1 t1 own e ∙ or-false (ltb t1 m1)
+takes_is Own own free m1 t1 m2 t2 e f = left_some m1 t1 own e ∙ or_false (ltb t1 m1)
   where
-    or-false : (b : Bool) → b ≡ (b || false)
-    or-false true = refl
-    or-false false = refl
+    or_false : (b : Bool) → b ≡ (b || false)
+    or_false true = refl
+    or_false false = refl
 takes_is Free own free m1 t1 m2 t2 e f = left_some m2 t2 free f
 takes_is Taken own free m1 t1 m2 t2 e f = refl
 
@@ -76,10 +76,10 @@ module _ (owner : ℤ → Option ℕ) (a : ℕ) (start : ℤ) (n many more own f
     free_left = free_next;
   })
 
-  pub pass-take :
+  pub pass_take :
       (after' : ℤ → Option ℕ) → ((u : ℤ) → after' u ≡ turned after t (Some seat) u) → true ≡ takes own free (kind_of a (after t) (owner t)) →
       Passed p q start (n + 1) many more own' free' seat before after'
-  pass-take after' write e = record {
+  pass_take after' write e = record {
     here = below_more (λ k. after' (start +ℤ pos k) ≡ cond (picked p many k || picked q more k) (Some seat) (before (start +ℤ pos k))) n
         (λ k l. other start (start +ℤ pos k) (omega (arith, ints)) (omega (arith, ints)) (omega (arith, ints)) (omega (arith, ints)) (λ z. omega (arith, ints)) ∙ h.here k l)
         (writes (start +ℤ pos n) ∙ cond-true _ _ _ (eq-eqb (slot (start +ℤ pos n)) (slot (start +ℤ pos n)) refl)

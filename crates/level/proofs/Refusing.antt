@@ -96,17 +96,17 @@ tick_refused m e = record { wrong = at_end e; least = least; same = refl }
 
 -- The least number that is wrong with a begin.
 module _ (m : Meaning) (s a : ℕ) (t : ℤ) (e : ℕ) (d : ℤ) where
-  pub begin-least :
+  pub begin_least :
       (k : ℕ) → k ≤ 7 → (2 < k → a < 16) → (3 < k → e ≡ 0 → ⊥) → (4 < k → m.clock ≤ℤ t) → (5 < k → (t <ℤ d) × (d ≤ℤ (m.clock +ℤ pos 1024))) → (6 < k → (s < 16) × (m.seats s ≡ None)) →
       (r : Refusal) → number_of r < k → Wrong m (to_begin s a t e d) r → ⊥
-  begin-least k le h2 h3 h4 h5 h6 r lt (begin_whom l) = let x = h2 lt in omega arith
-  begin-least k le h2 h3 h4 h5 h6 r lt (for_nothing z) = h3 lt z
-  begin-least k le h2 h3 h4 h5 h6 r lt (early l) = let x = h4 lt in omega (arith, ints)
-  begin-least k le h2 h3 h4 h5 h6 r lt (backward l) = let x = (h5 lt).0 in omega (arith, ints)
-  begin-least k le h2 h3 h4 h5 h6 r lt (far l) = let x = (h5 lt).1 in omega (arith, ints)
-  begin-least k le h2 h3 h4 h5 h6 r lt (seat_unavailable l) = let x = (h6 lt).0 in omega arith
-  begin-least k le h2 h3 h4 h5 h6 r lt (in_use {h = h} q) = none_some (m.seats s) h (h6 lt).1 q
-  begin-least k le h2 h3 h4 h5 h6 r lt (too_few q l) = omega arith
+  begin_least k le h2 h3 h4 h5 h6 r lt (begin_whom l) = let x = h2 lt in omega arith
+  begin_least k le h2 h3 h4 h5 h6 r lt (for_nothing z) = h3 lt z
+  begin_least k le h2 h3 h4 h5 h6 r lt (early l) = let x = h4 lt in omega (arith, ints)
+  begin_least k le h2 h3 h4 h5 h6 r lt (backward l) = let x = (h5 lt).0 in omega (arith, ints)
+  begin_least k le h2 h3 h4 h5 h6 r lt (far l) = let x = (h5 lt).1 in omega (arith, ints)
+  begin_least k le h2 h3 h4 h5 h6 r lt (seat_unavailable l) = let x = (h6 lt).0 in omega arith
+  begin_least k le h2 h3 h4 h5 h6 r lt (in_use {h = h} q) = none_some (m.seats s) h (h6 lt).1 q
+  begin_least k le h2 h3 h4 h5 h6 r lt (too_few q l) = omega arith
 
   -- nothing else is wrong
   pub fine_sound : Fine m s a t e d → e ≤ between (available m a) t d → Sound m (to_begin s a t e d)
@@ -122,6 +122,6 @@ module _ (m : Meaning) (s a : ℕ) (t : ℤ) (e : ℕ) (d : ℤ) where
   pub fine_few : Fine m s a t e d → (k : ℕ) → k ≡ between (available m a) t d → k < e → Refused m (to_begin s a t e d) (TooFew k) m
   fine_few f k q l = record {
     wrong = too_few q l;
-    least = begin-least 7 (omega arith) (λ x. f.whom) (λ x. f.some) (λ x. f.from) (λ x. (f.to, f.near)) (λ x. (f.seat, f.unused));
+    least = begin_least 7 (omega arith) (λ x. f.whom) (λ x. f.some) (λ x. f.from) (λ x. (f.to, f.near)) (λ x. (f.seat, f.unused));
     same = refl;
   }

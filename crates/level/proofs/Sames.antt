@@ -9,7 +9,7 @@ use Rattle.level.specs.Meaning.{Constraint, Meaning, Event, woke, blocked, began
 use Rattle.level.specs.Refusals.{available, own}
 use Rattle.level.specs.Steps.{Step, Kept, Beside, Switched, Reseated, Handed, By, SameLevel, with_ticket, one_more_run}
 use Rattle.level.proofs.Counts.{some_or_not}
-use Rattle.level.proofs.Unique.{chosen-once}
+use Rattle.level.proofs.Unique.{chosen_once}
 
 same_parts :
     (m n o : Meaning) → Kept m n → Kept m o → o.clock ≡ n.clock → ((a : ℕ) → o.ready a ≡ n.ready a) → ((s : ℕ) → o.seats s ≡ n.seats s) →
@@ -80,7 +80,7 @@ same_level (woke a) m n o s t = same_switched true m a n o s.1 t.1
 same_level (blocked a) m n o s t = same_switched false m a n o s.1 t.1
 same_level (began k a v e d x) m n o s t =
     same_beside m n o s.1.beside t.1.beside (same_seats m k _ _ n o refl s.1.seat t.1.seat)
-    (λ u. t.1.marks u ∙ ap (λ b. cond b (Some k) (m.marks u)) (chosen-once (available m a) (own m a) v d e t.1.chosen s.1.chosen t.1.choice s.1.choice u) ∙ sym (s.1.marks u))
+    (λ u. t.1.marks u ∙ ap (λ b. cond b (Some k) (m.marks u)) (chosen_once (available m a) (own m a) v d e t.1.chosen s.1.chosen t.1.choice s.1.choice u) ∙ sym (s.1.marks u))
 same_level (ended x c) m n o s t =
     same_beside m n o s.1.beside t.1.beside (same_seats m x.seat _ _ n o refl s.1.seat t.1.seat)
     (λ u. ⊎_elim (λ q. t.1.gone u q ∙ sym (s.1.gone u q)) (λ q. t.1.others u q ∙ sym (s.1.others u q)) (some_or_not x.seat (m.marks u)))

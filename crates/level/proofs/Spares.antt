@@ -10,7 +10,7 @@ use Rattle.level.specs.Steps.{Step, By, Kept}
 use Rattle.level.specs.Together.{Opening, Entry, opened, called, Opens, Alone, first, next}
 use Rattle.level.specs.Promises.{ready_in, run, ran, is_spare, spare, spare_by, passes, by, count, When, ReadyAt, SpareTurn, rule_in, Moves, Nearer, RuleSteady}
 use Rattle.level.proofs.Alones.{step_kept, ready_is, rule_is, earlier_level}
-use Rattle.level.proofs.Shares.{last-call, when_ready, at_opening}
+use Rattle.level.proofs.Shares.{last_call, when_ready, at_opening}
 
 -- what a call does to the rule
 abbrev MovesIn : (ℕ → Bool) → Option Ticked → Rule → Rule → Type 0
@@ -92,12 +92,12 @@ less_waits : (d d' p p' k : ℕ) → d' < d → d ≤ p → p' ≡ p → Waits d
 less_waits d d' p p' k lt le e (inl z) = inr (omega arith)
 less_waits d d' p p' k lt le e (inr z) = inr (omega arith)
 
-move-waits :
+move_waits :
     (ready : ℕ → Bool) (o : Option Ticked) (r r' : Rule) → MovesIn ready o r r' → Within r → (a : ℕ) → a < 16 →
     When o (λ f. spare f ≡ true → ready a ≡ true) → passes (spare_by a) o ≡ false →
     (k : ℕ) → Waits (r.distance a) r.patience k → Waits (r'.distance a) r'.patience (one (passes spare o) + k)
-move-waits ready None r r' v w a lt rd ne k wt = same_waits r r' a k v wt
-move-waits ready (Some e) r r' v w a lt rd ne k wt = go (spare e) refl
+move_waits ready None r r' v w a lt rd ne k wt = same_waits r r' a k v wt
+move_waits ready (Some e) r r' v w a lt rd ne k wt = go (spare e) refl
   where
     go : (b : Bool) → spare e ≡ b → Waits (r'.distance a) r'.patience (one (spare e) + k)
     go true q =
@@ -120,9 +120,9 @@ waits a lt (x ∷ w) earlier (next {p} {m} y {n} r s) e rd z =
     let head : called y m.rule n.rule ≡ x = cc in
     let rest : count (spare_by a) w ≡ 0 = omega arith in
     let ne : passes (spare_by a) (run y) ≡ false = ap (λ v. passes (spare_by a) (ran v)) head ∙ one_none (passes (spare_by a) (ran x)) (count (spare_by a) w) z in
-    let here = when_ready (λ f. spare f ≡ true) y a _ _ (sym (ready_is r a)) (last-call (λ f. spare f ≡ true) a y m.rule n.rule x w earlier p e rd.0) in
+    let here = when_ready (λ f. spare f ≡ true) y a _ _ (sym (ready_is r a)) (last_call (λ f. spare f ≡ true) a y m.rule n.rule x w earlier p e rd.0) in
     subst (λ v. Waits (n.rule.distance a) n.rule.patience (one (passes spare (ran v)) + count spare w)) head
-    (move-waits m.ready (run y) m.rule n.rule (step_moves y m n s) (within r) a lt here ne (count spare w) (waits a lt w earlier r tail rd.1 rest))
+    (move_waits m.ready (run y) m.rule n.rule (step_moves y m n s) (within r) a lt here ne (count spare w) (waits a lt w earlier r tail rd.1 rest))
 
 no_spare : (w earlier : List Entry) (f : Ticked → Bool) → w ++ earlier ≡ [] → count f w ≡ 0
 no_spare [] earlier f e = refl

@@ -21,10 +21,10 @@ use Rattle.level.proofs.Seated.{in_use_held, seat_at_lem, more_at}
 use Rattle.level.proofs.Seen.{seen_here, seen_spent, seen_others}
 
 module _ {T R : Type 0} (owner : T → ℤ → Option ℕ) (cycle : T → ℕ) (distance : R → ℕ → ℕ) (patience : R → ℕ) where
-  pub by-mark :
+  pub by_mark :
       (l : Level T R) (s a : ℕ) → holder l.inner.board l.inner.clock ≡ Some s → RunnerOf l.inner s (Some a) →
       ByMark (meaning owner cycle distance patience l) s a × (s < 16)
-  by-mark l s a mark r = (
+  by_mark l s a mark r = (
     record {
       mark = seen_here (holder l.inner.board) l.inner.clock ∙ mark;
       held = in_use_held (get_or l.inner.seats s no_seat);
@@ -36,16 +36,16 @@ module _ {T R : Type 0} (owner : T → ℤ → Option ℕ) (cycle : T → ℕ) (
   )
 
   -- what is counted of a tick
-  by-given :
+  by_given :
       (t : Letter) (o : Option ℕ) (m k n : Meaning) → GivenTo m t o k → n.rule ≡ k.rule →
       ((s : ℕ) → is_for s t ≡ false → n.seats s ≡ m.seats s) → ((s : ℕ) (h : Constraint) → is_for s t ≡ true → m.seats s ≡ Some h → n.seats s ≡ Some (one_more_run h)) → By m t o n
-  by-given (Constrained s) None m k n p er off on = absurd p
-  by-given (Constrained s) (Some a) m k n p er off on =
+  by_given (Constrained s) None m k n p er off on = absurd p
+  by_given (Constrained s) (Some a) m k n p er off on =
       (p.0, record { seat = on s p.0.held (eq-eqb s s refl) p.0.seat; others = λ j ne. off j (ne_eqb s j (λ e. ne (sym e))) }, er ∙ p.1)
-  by-given Reserved None m k n p er off on = absurd p
-  by-given Reserved (Some a) m k n p er off on = (p.0, fun_ext (λ s. off s refl), er ∙ p.1)
-  by-given Spare None m k n p er off on = absurd p
-  by-given Spare (Some a) m k n p er off on = (
+  by_given Reserved None m k n p er off on = absurd p
+  by_given Reserved (Some a) m k n p er off on = (p.0, fun_ext (λ s. off s refl), er ∙ p.1)
+  by_given Spare None m k n p er off on = absurd p
+  by_given Spare (Some a) m k n p er off on = (
     record {
       neither = p.neither;
       named = subst (λ r. Chosen m.ready m.rule.distance m.rule.patience (Some a) r.distance r.patience) (sym er) p.named;
@@ -53,8 +53,8 @@ module _ {T R : Type 0} (owner : T → ℤ → Option ℕ) (cycle : T → ℕ) (
     },
     fun_ext (λ s. off s refl),
   )
-  by-given Idle None m k n p er off on = (p.0, fun_ext (λ s. off s refl), er ∙ p.1)
-  by-given Idle (Some a) m k n p er off on = absurd p
+  by_given Idle None m k n p er off on = (p.0, fun_ext (λ s. off s refl), er ∙ p.1)
+  by_given Idle (Some a) m k n p er off on = absurd p
 
   given_patience : (t : Letter) (o : Option ℕ) (m k : Meaning) → GivenTo m t o k → k.rule.patience ≡ m.rule.patience
   given_patience (Constrained s) None m k p = absurd p
@@ -81,7 +81,7 @@ module _ {T R : Type 0} (owner : T → ℤ → Option ℕ) (cycle : T → ℕ) (
       spent = seen_spent f g l.inner.clock j.clock next cleared;
       others = seen_others f g l.inner.clock j.clock next cleared;
       used = λ x. a.used x ∙ ap (λ i. one (is x o) + get_or i.used x 0) ei;
-      by = by-given t o _ _ _ given refl
+      by = by_given t o _ _ _ given refl
           (λ s e. ap (λ x. cond (ltb s 16) (held_of x) None) (seats s ∙ cond-false (is_for s t) _ _ e))
           (λ s h e q. ap (λ x. cond (ltb s 16) (held_of x) None) (seats s ∙ cond-true (is_for s t) _ _ e) ∙ more_at l.inner.seats s h q);
     },

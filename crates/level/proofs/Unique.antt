@@ -62,9 +62,9 @@ module _ (available own : ℤ → Bool) (start deadline : ℤ) (many : ℕ) wher
       (λ h. let m = h.1 j jn (ap d off ∙ dt) (ap c off ∙ ct) in omega arith)
       (find (λ k. c (start +ℤ pos k)) (λ k. d (start +ℤ pos k)) n)
 
-  pub chosen-once :
+  pub chosen_once :
       (c d : ℤ → Bool) → Marking available own start deadline many c → Marking available own start deadline many d → (t : ℤ) → c t ≡ d t
-  chosen-once c d hc hd t =
+  chosen_once c d hc hd t =
       ⊎_elim
       (λ x. ⊎_elim (λ y. x ∙ sym y) (λ y. absurd (one_way d c hd hc t x y)) (cases_Bool (d t)))
       (λ x. ⊎_elim (λ y. absurd (one_way c d hc hd t y x)) (λ y. x ∙ sym y) (cases_Bool (d t)))

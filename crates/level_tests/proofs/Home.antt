@@ -6,9 +6,9 @@ use Rattle.level.specs.Meaning.{Meaning, to_end, began, refused}
 use Rattle.level.specs.Steps.{Step}
 use Rattle.level.proofs.Refusing.{end_sound}
 
-pub ended-at-home :
+pub ended_at_home :
     (m n o : Meaning) (s a : ℕ) (t : ℤ) (e : ℕ) (d : ℤ) (x y : Ticket) (r : Refusal) → Step m (began s a t e d x) n → y ≡ x → Step n (refused (to_end y) r) o → ⊥
-ended-at-home m n o s a t e d x y r b q f =
+ended_at_home m n o s a t e d x y r b q f =
     let ticket = q ∙ b.1.ticket in
     let level : y.level ≡ n.number = ap (λ z. z.level) ticket ∙ sym b.1.beside.kept.number in
     end_sound n y _ level (ap (λ z. n.seats z.seat) ticket ∙ b.1.seat.seat) refl r f.wrong

@@ -1,5 +1,7 @@
 // Plans: timetables written as a list of entries, each of which owns a stretch of every frame on its path.
 // It uses `clock` and `timetable`. A plan is filled whole or not at all, so no plan ever has a clash.
+#![tactic(auto)]
+
 pub mod entry;
 pub mod fault;
 pub mod fill;

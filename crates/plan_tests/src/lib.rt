@@ -1,5 +1,7 @@
 // Tests of `clock`, `timetable`, `plan` and `bars` at their edges.
 // They stand in a crate of their own, so that those crates are not proved a second time for them.
+#![tactic(auto)]
+
 #[cfg(test)]
 mod tests {
     use bars::line;

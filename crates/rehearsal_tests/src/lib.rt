@@ -1,4 +1,6 @@
 // Tests of scripts and rows at their edges. It uses `level` and `rehearsal`.
+#![tactic(auto)]
+
 #[cfg(test)]
 mod tests {
     use command::command::{Command, ScriptFault};

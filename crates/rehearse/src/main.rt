@@ -1,5 +1,7 @@
 // The program `rehearse`: plays the script on standard input on a level over the plan of the sheet `plan.bin`, and writes the rows.
 // It is thin: a whole rehearsal, from the bytes of sheet and script to those of the rows, is proved in `rehearsal`.
+#![tactic(auto)]
+
 ghost use Rattle.std.specs.Prelude.{◌≤◌, length, IfOk};
 
 use anyhow::anyhow;

@@ -12,8 +12,8 @@ left_at_once m n o s a t e d x r b f =
     let level : x.level ≡ n.number = ap (λ z. z.level) b.1.ticket ∙ sym b.1.beside.kept.number in
     leave_sound n x _ level (ap (λ z. n.seats z.seat) b.1.ticket ∙ b.1.seat.seat) refl r f.wrong
 
-pub ended-at-once :
+pub ended_at_once :
     (m n o : Meaning) (s : ℕ) (x : Ticket) (r : Refusal) → Step m (collected s x) n → Step n (refused (to_end x) r) o → ⊥
-ended-at-once m n o s x r b f =
+ended_at_once m n o s x r b f =
     let level : x.level ≡ n.number = ap (λ z. z.level) b.2 ∙ sym b.1.beside.kept.number in
     end_sound n x _ level (ap (λ z. n.seats z.seat) b.2 ∙ b.1.seat.seat) refl r f.wrong

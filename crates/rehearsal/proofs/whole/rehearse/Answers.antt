@@ -18,7 +18,7 @@ returns-in-Ok g c =
     } in
     record {
       told = tells_sheet g.S.Sink.hands c.args.sheet.now c.args.script.now c.args.sink.now holds c.in-Ok.field-0 e.told
-          c.rehearse-on.result c.output.result c.rehearse-on.new.sink c.output.ensures c.rehearse-on.ensures.told;
+          c.rehearse_on.result c.output.result c.rehearse_on.new.sink c.output.ensures c.rehearse_on.ensures.told;
       once = rows_once;
     }
 
@@ -27,7 +27,7 @@ returns-in-Some g c =
     record {
       told = tells_refused g.S.Sink.hands c.args.sheet.now c.args.script.now c.args.sink.now c.in-Err.fault c.in-Err.ensures.told
           (numbered c.in-Err.fault c.in-Some.field-0 c.in-Some.ensures)
-          c.hand-row.result c.output-in-Some.result c.hand-row.new.sink c.output-in-Some.ensures c.hand-row.ensures;
+          c.hand_row.result c.output-in-Some.result c.hand_row.new.sink c.output-in-Some.ensures c.hand_row.ensures;
       once = rows_once;
     }
 

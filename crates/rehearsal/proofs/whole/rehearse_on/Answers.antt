@@ -44,7 +44,7 @@ returns-in-Err g c =
     let line : c.line.result ≡ 1 = c.line.ensures ∙ ap fault_line e.0 in
     record {
       told = tells_alone g.S.Sink.hands (g.T.Timetable.owner c.args.timetable) (g.T.Timetable.cycle c.args.timetable) c.args.script.now c.args.sink.now
-          (Malformed 1) c.hand-row.result c.hand-row.new.sink (unopened e.1)
-          (subst (λ (k : ℕ). g.S.Sink.hands c.args.sink.now (row_text (Malformed k)) c.hand-row.result c.hand-row.new.sink) line c.hand-row.ensures);
+          (Malformed 1) c.hand_row.result c.hand_row.new.sink (unopened e.1)
+          (subst (λ (k : ℕ). g.S.Sink.hands c.args.sink.now (row_text (Malformed k)) c.hand_row.result c.hand_row.new.sink) line c.hand_row.ensures);
       once = script_rows_once;
     }

@@ -5,7 +5,7 @@ use Rattle.reservation.proofs.window.first_short.Given as given
 use Rattle.reservation.proofs.window.first_short.Goals as goal
 
 -- the window that begins one tick later
-moved : (g : given.Over) (c : goal.After-owned-at-leaving g) → owned (g.T.Timetable.owner c.args.timetable.now) c.args.reservation.now.activity (pos (c.loop-start.start + 1)) c.args.reservation.now.period + c.owned-at-leaving.result ≡ c.loop-start.found + c.owned-at-entering.result
+moved : (g : given.Over) (c : goal.After-owned_at-leaving g) → owned (g.T.Timetable.owner c.args.timetable.now) c.args.reservation.now.activity (pos (c.loop-start.start + 1)) c.args.reservation.now.period + c.owned_at-leaving.result ≡ c.loop-start.found + c.owned_at-entering.result
 moved g c =
     counted_slide (g.T.Timetable.owner c.args.timetable.now) c.args.reservation.now.activity c.args.reservation.now.period c.loop-start.start
     c.loop-start.invariant.0 (search rules) (search rules)
@@ -13,7 +13,7 @@ moved g c =
 pub loop-start-init : goal.loop-start-init
 loop-start-init g c =
     let le = owned_le (g.T.Timetable.owner c.args.timetable.now) c.args.reservation.now.activity (pos 0) c.args.reservation.now.period in
-    let e = c.count-first-found.ensures in
+    let e = c.count_first-found.ensures in
     (omega arith, omega arith, below_none _)
 
 pub overflow-sub-found : goal.overflow-sub-found

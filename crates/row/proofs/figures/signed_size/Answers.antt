@@ -5,7 +5,7 @@ use Rattle.row.proofs.Laid.{minus, plain}
 use Rattle.row.proofs.figures.signed_size.Goals as goal
 
 pub overflow-add-result : goal.overflow-add-result
-overflow-add-result c = omega (arith, length-decimal-le 10 c.unsigned-abs.result (omega arith) (omega arith) (omega arith))
+overflow-add-result c = omega (arith, length-decimal-le 10 c.unsigned_abs.result (omega arith) (omega arith) (omega arith))
 
 pub returns-then-v-lt0 : goal.returns-then-v-lt0
 returns-then-v-lt0 c =
@@ -13,8 +13,8 @@ returns-then-v-lt0 c =
     let back : to_z w32 (of_z w32 v) ≡ v = to_z-of_z w32 v c.ranges.v in
     let below : v <ℤ pos 0 = grind (arith, ints) in
     let e = ap length (minus v below) in
-    let m = ap (λ n. length (decimal n)) (c.unsigned-abs.ensures.value ∙ ap nat_abs back) in
-    let short = length-decimal-le 10 c.unsigned-abs.result (omega arith) (omega arith) (omega arith) in
+    let m = ap (λ n. length (decimal n)) (c.unsigned_abs.ensures.value ∙ ap nat_abs back) in
+    let short = length-decimal-le 10 c.unsigned_abs.result (omega arith) (omega arith) (omega arith) in
     record { value = omega (arith, e); bound = omega arith }
 
 pub returns-else-v-lt0 : goal.returns-else-v-lt0
@@ -23,6 +23,6 @@ returns-else-v-lt0 c =
     let back : to_z w32 (of_z w32 v) ≡ v = to_z-of_z w32 v c.ranges.v in
     let above : v <ℤ pos 0 → ⊥ = λ l. grind (arith, ints) in
     let e = ap length (plain v above) in
-    let m = ap (λ n. length (decimal n)) (c.unsigned-abs.ensures.value ∙ ap nat_abs back) in
-    let short = length-decimal-le 10 c.unsigned-abs.result (omega arith) (omega arith) (omega arith) in
+    let m = ap (λ n. length (decimal n)) (c.unsigned_abs.ensures.value ∙ ap nat_abs back) in
+    let short = length-decimal-le 10 c.unsigned_abs.result (omega arith) (omega arith) (omega arith) in
     record { value = omega (arith, e); bound = omega arith }

@@ -9,24 +9,24 @@ use Rattle.row.specs.Rows.{room, placed}
 use Rattle.row.proofs.Laid.{lent, minus, placed_is}
 use Rattle.row.proofs.figures.write_i32.Goals as goal
 
-pub overflow-add-digit-count : goal.overflow-add-digit-count
-overflow-add-digit-count c = omega (arith, length-decimal-le 10 c.unsigned-abs-size.result (omega arith) (omega arith) (omega arith))
+pub overflow-add-digit_count : goal.overflow-add-digit_count
+overflow-add-digit_count c = omega (arith, length-decimal-le 10 c.unsigned_abs-size.result (omega arith) (omega arith) (omega arith))
 
 pub returns-in-Some : goal.returns-in-Some
 returns-in-Some c =
     let v = c.args.v in
     let xs = c.args.out.now in
     let ys = set xs 0 45 in
-    let n = c.unsigned-abs-size.result in
+    let n = c.unsigned_abs-size.result in
     let t = decimal n in
     let back : to_z w32 (of_z w32 v) ≡ v = to_z-of_z w32 v c.ranges.v in
     let below : v <ℤ pos 0 = grind (arith, ints) in
     let text : signed_decimal v ≡ 45 ∷ t =
-    minus v below ∙ ap (λ k. 45 ∷ decimal k) (ap nat_abs (sym back) ∙ sym c.unsigned-abs-size.ensures.value)
+    minus v below ∙ ap (λ k. 45 ∷ decimal k) (ap nat_abs (sym back) ∙ sym c.unsigned_abs-size.ensures.value)
     in
     let len : length ys ≡ length xs = length-set xs 0 45 in
     let fits : 1 + length t ≤ length ys = omega arith in
-    let there = lent ys c.write-u32-2.new.out 1 t fits c.write-u32-2.ensures.after in
+    let there = lent ys c.write_u32-2.new.out 1 t fits c.write_u32-2.ensures.after in
     let first : take 1 ys ≡ 45 ∷ [] = take_more_set xs 0 45 (omega arith) in
     let rest : drop (1 + length t) ys ≡ drop (1 + length t) xs = drop-set-lt (1 + length t) xs 0 45 (omega arith) in
     let lend = ap length (take_rest ys 1) ∙ length-drop 1 ys in

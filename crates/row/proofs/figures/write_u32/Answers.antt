@@ -48,6 +48,6 @@ returns c =
     in
     let stored : set xs 0 (48 + n) ≡ (48 + n) ∷ drop 1 xs = drop-set xs 0 (48 + n) (omega arith) in
     let whole : set xs 0 (48 + n) ≡ text ++ drop (length text) c.args.out.now =
-    stored ∙ (sym last ∙ (c.loop-at.invariant.1 ∙ ap (λ k. text ++ drop k c.args.out.now) c.digit-count-count.ensures.value))
+    stored ∙ (sym last ∙ (c.loop-at.invariant.1 ∙ ap (λ k. text ++ drop k c.args.out.now) c.digit_count-count.ensures.value))
     in
     record { value = grind (arith, nat_tests); after = grind (arith, nat_tests) }

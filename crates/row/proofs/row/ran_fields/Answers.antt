@@ -13,5 +13,5 @@ parts z t u b o l e r h = simp (append_assoc, e, r, h)
 
 pub returns : goal.returns
 returns c =
-    parts (to_z w32 (of_z w32 c.args.tick)) c.args.tick (field_text c.runner-field.result) c.letter-byte.result c.args.runner c.args.letter
-    (to_z-of_z w32 c.args.tick c.ranges.tick) c.runner-field.ensures c.letter-byte.ensures
+    parts (to_z w32 (of_z w32 c.args.tick)) c.args.tick (field_text c.runner_field.result) c.letter_byte.result c.args.runner c.args.letter
+    (to_z-of_z w32 c.args.tick c.ranges.tick) c.runner_field.ensures c.letter_byte.ensures

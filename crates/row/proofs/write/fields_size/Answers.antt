@@ -6,13 +6,13 @@ use Rattle.row.proofs.Laid.{fields_next}
 use Rattle.row.proofs.write.fields_size.Goals as goal
 
 pub overflow-add-size : goal.overflow-add-size
-overflow-add-size c = omega (arith, c.loop-i.invariant.1, c.field-size-size.ensures.bound)
+overflow-add-size c = omega (arith, c.loop-i.invariant.1, c.field_size-size.ensures.bound)
 
 pub loop-i-preserved : goal.loop-i-preserved
 loop-i-preserved c =
     let next = fields_next c.args.fields.now c.loop-i.i Nothing (omega (arith, c.told-fields)) in (
-      omega (arith, c.loop-i.invariant.0, c.field-size-size.ensures.value, next.1),
-      omega (arith, c.loop-i.invariant.1, c.field-size-size.ensures.bound),
+      omega (arith, c.loop-i.invariant.0, c.field_size-size.ensures.value, next.1),
+      omega (arith, c.loop-i.invariant.1, c.field_size-size.ensures.bound),
     )
 
 pub returns : goal.returns

@@ -13,12 +13,12 @@ returns c =
     let xs = c.args.out.now in
     let i = c.args.at in
     let back : to_z w32 (of_z w32 v) ≡ v = to_z-of_z w32 v c.ranges.v in
-    let after : c.write-i32.new.out ≡ placed (signed_decimal v) (take (length xs - i) (drop i xs)) =
-    c.write-i32.ensures.after ∙ ap (λ z. placed (signed_decimal z) (take (length xs - i) (drop i xs))) back
+    let after : c.write_i32.new.out ≡ placed (signed_decimal v) (take (length xs - i) (drop i xs)) =
+    c.write_i32.ensures.after ∙ ap (λ z. placed (signed_decimal z) (take (length xs - i) (drop i xs))) back
     in
     let n = simp back at c.in-Some.ensures.value in
     let lend = ap length (take_rest xs i) ∙ length-drop i xs in
     record {
       value = grind (arith, nat_tests);
-      after = lent xs c.write-i32.new.out i (signed_decimal v) c.requires after;
+      after = lent xs c.write_i32.new.out i (signed_decimal v) c.requires after;
     }

@@ -12,5 +12,5 @@ returns c =
     let lend = ap length (take_rest xs i) ∙ length-drop i xs in
     record {
       value = grind (arith, nat_tests);
-      after = lent xs c.write-u32.new.out i (decimal c.args.n) c.requires c.write-u32.ensures.after;
+      after = lent xs c.write_u32.new.out i (decimal c.args.n) c.requires c.write_u32.ensures.after;
     }

@@ -7,4 +7,4 @@ returns g c =
     let a = c.open-left.ensures.opened in
     let b = c.open-right.ensures.opened in
     let w = c.wake-woken.ensures.called in
-    story _ _ _ _ _ _ _ _ _ _ a.opens.number ((by_call w).number ∙ a.opens.number) b.opens.number a.starts b.starts w.goes c.tick-both-first.ensures
+    story _ _ _ _ _ _ _ _ _ _ a.opens.number ((by_call w).number ∙ a.opens.number) b.opens.number a.starts b.starts w.goes c.tick_both-first.ensures

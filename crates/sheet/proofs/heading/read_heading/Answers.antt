@@ -6,8 +6,8 @@ pub returns-in-err-list : goal.returns-in-err-list
 returns-in-err-list c =
     rw c.from-residual.ensures (marked_none c.args.block.now c.from-reserved.result c.args.blocks c.from-reserved.ensures c.in-err-list.ensures)
 
-pub returns-then-not-are-zero : goal.returns-then-not-are-zero
-returns-then-not-are-zero c = unzero_none c.args.block.now c.from-reserved.result c.args.blocks c.from-reserved.ensures c.if-not-are-zero.ensures
+pub returns-then-not-are_zero : goal.returns-then-not-are_zero
+returns-then-not-are_zero c = unzero_none c.args.block.now c.from-reserved.result c.args.blocks c.from-reserved.ensures c.if-not-are_zero.ensures
 
 pub returns : goal.returns
 returns c =
@@ -15,7 +15,7 @@ returns c =
     record {
       few = omega arith;
       places = read.places;
-      heading = heading_made c.args.block.now c.from-le-bytes.result _ c.from-reserved.result c.from-entries.result c.in-ok-list.list (omega arith) (omega arith) c.from-le-bytes.ensures refl c.from-reserved.ensures c.from-entries.ensures (omega arith) (omega arith) read c.if-not-are-zero.ensures;
+      heading = heading_made c.args.block.now c.from_le_bytes.result _ c.from-reserved.result c.from-entries.result c.in-ok-list.list (omega arith) (omega arith) c.from_le_bytes.ensures refl c.from-reserved.ensures c.from-entries.ensures (omega arith) (omega arith) read c.if-not-are_zero.ensures;
       fits = omega arith;
       others = read.others;
     }

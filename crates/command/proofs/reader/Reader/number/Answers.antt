@@ -23,19 +23,19 @@ returns-then-end-from-gt1 c =
     let zero : i + 0 ≡ i = omega arith in
     record { value = grind (arith, nat_tests); after = refl; line = refl }
 
-pub slice-bounds-digits-value-end : goal.slice-bounds-digits-value-end
-slice-bounds-digits-value-end c =
+pub slice-bounds-digits_value-end : goal.slice-bounds-digits_value-end
+slice-bounds-digits_value-end c =
     let xs = c.args.self.now.bytes.now in
     let i = c.args.self.now.at in
     let n = prefix_len-le-length is_digit (drop i xs) in
     let l = length-drop i xs in
     search rules
 
-pub digits-value-requires : goal.digits-value-requires
-digits-value-requires c =
+pub digits_value-requires : goal.digits_value-requires
+digits_value-requires c =
     let xs = c.args.self.now.bytes.now in
     let i = c.args.self.now.at in
-    let n = c.run-end-end.result - i in
+    let n = c.run_end-end.result - i in
     λ k h.
     let l = length-take n (drop i xs) in
     let k-n : k < n = omega (arith, l) in
@@ -54,7 +54,7 @@ returns-in-default c =
       | else-all-from-eq48-via-else-all-from-eq48 w ↦ grind (arith, nat_tests)
     ]
     in
-    let same : take (c.run-end-end.result - i) (drop i xs) ≡ take (prefix_len is_digit (drop i xs)) (drop i xs) =
+    let same : take (c.run_end-end.result - i) (drop i xs) ≡ take (prefix_len is_digit (drop i xs)) (drop i xs) =
     ap (λ n. take n (drop i xs)) (omega arith)
     in
     let v = simp same at c.in-default.ensures in
@@ -72,12 +72,12 @@ returns c =
       | else-all-from-eq48-via-else-all-from-eq48 w ↦ grind (arith, nat_tests)
     ]
     in
-    let same : take (c.run-end-end.result - i) (drop i xs) ≡ take (prefix_len is_digit (drop i xs)) (drop i xs) =
+    let same : take (c.run_end-end.result - i) (drop i xs) ≡ take (prefix_len is_digit (drop i xs)) (drop i xs) =
     ap (λ n. take n (drop i xs)) (omega arith)
     in
     let v = simp same at c.in-Some.ensures in
     record {
       value = grind (arith, nat_tests);
-      after = ap (λ n. drop n xs) c.run-end-end.ensures ∙ sym (drop-drop (prefix_len is_digit (drop i xs)) i xs);
+      after = ap (λ n. drop n xs) c.run_end-end.ensures ∙ sym (drop-drop (prefix_len is_digit (drop i xs)) i xs);
       line = refl;
     }

@@ -10,9 +10,9 @@ pub returns-in-err-command : goal.returns-in-err-command
 unfolding line_in line_rest
 returns-in-err-command c = search rules
 
-pub returns-in-err-line-end : goal.returns-in-err-line-end
+pub returns-in-err-line_end : goal.returns-in-err-line_end
 unfolding line_in line_rest
-returns-in-err-line-end c = search rules
+returns-in-err-line_end c = search rules
 
 pub returns : goal.returns
 unfolding line_in line_rest

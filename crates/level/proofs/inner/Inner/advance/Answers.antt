@@ -1,11 +1,11 @@
 use Rattle.std.proofs.Common.{◌≡◌, ℕ, ◌<◌, ℤ, pos, ◌+ℤ◌, ◌≤ℤ◌, ◌<ℤ◌, sym, refl, ap, ◌∙◌, arith, w32, SFits, to_z, of_z, rules}
 use Rattle.std.proofs.lemmas.Int.{ints, to_z-of_z, by_lt_z}
 use Rattle.level.specs.Promises.{is_for}
-use Rattle.level.proofs.Counted.{room, ran_more, used-more}
+use Rattle.level.proofs.Counted.{room, ran_more, used_more}
 use Rattle.level.proofs.inner.Inner.advance.Goals as goal
 
-pub tally-seat-requires : goal.tally-seat-requires
-tally-seat-requires c =
+pub tally_seat-requires : goal.tally_seat-requires
+tally_seat-requires c =
     let ne = c.requires.1.1 in
     let fc : SFits w32 c.args.self.now.clock = search rules in
     let lt : c.args.self.now.clock <ℤ pos 2147483647 = by_lt_z c.args.self.now.clock (pos 2147483647) (λ l. l) (λ l. absurd (ne (omega (arith, ints)))) in
@@ -24,6 +24,6 @@ invariant-of-self c =
     let fc : SFits w32 c.args.self.now.clock = search rules in
     let lt : c.args.self.now.clock <ℤ pos 2147483647 = by_lt_z c.args.self.now.clock (pos 2147483647) (λ l. l) (λ l. absurd (ne (omega (arith, ints)))) in
     let e : to_z w32 (of_z w32 (to_z w32 (of_z w32 c.args.self.now.clock) +ℤ pos 1)) ≡ c.args.self.now.clock +ℤ pos 1 = omega (arith, ints) in (
-      ran_more c.args.self.now.clock _ e c.args.self.now.seats _ (λ s. is_for s c.args.letter) c.tally-seat.ensures c.args.self.now.few,
-      (used-more c.args.self.now.clock _ e c.args.self.now.used _ c.args.runner c.credit.ensures c.args.self.now.little, tt),
+      ran_more c.args.self.now.clock _ e c.args.self.now.seats _ (λ s. is_for s c.args.letter) c.tally_seat.ensures c.args.self.now.few,
+      (used_more c.args.self.now.clock _ e c.args.self.now.used _ c.args.runner c.credit.ensures c.args.self.now.little, tt),
     )

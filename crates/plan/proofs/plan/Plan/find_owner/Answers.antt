@@ -17,21 +17,21 @@ ranged p es e = subst (λ xs. Ranged p.base.ticks p.depth xs (length xs)) (sym e
 pub loop-entry-preserved : goal.loop-entry-preserved
 loop-entry-preserved c =
     let p = c.args.self.now in
-    let es = c.as-slice-entry-items.result.now in
+    let es = c.as_slice-entry-items.result.now in
     let fits : SFits w32 c.place-place.result.frame = search rules in
-    let s = sought p.base.ticks p.depth c.place-place.ensures.lies (to_z-of_z w32 c.place-place.result.frame fits) c.residue-of-frame.ensures in
-    owner_later p.base.ticks p.depth es c.loop-entry.entry-index s (ranged p es c.as-slice-entry-items.ensures.value) c.loop-entry-test.true c.if-covers.ensures c.loop-entry.invariant
+    let s = sought p.base.ticks p.depth c.place-place.ensures.lies (to_z-of_z w32 c.place-place.result.frame fits) c.residue_of-frame.ensures in
+    owner_later p.base.ticks p.depth es c.loop-entry.entry-index s (ranged p es c.as_slice-entry-items.ensures.value) c.loop-entry-test.true c.if-covers.ensures c.loop-entry.invariant
 
 pub returns-then-covers : goal.returns-then-covers
 returns-then-covers c =
     let p = c.args.self.now in
-    let es = c.as-slice-entry-items.result.now in
+    let es = c.as_slice-entry-items.result.now in
     let fits : SFits w32 c.place-place.result.frame = search rules in
-    let s = sought p.base.ticks p.depth c.place-place.ensures.lies (to_z-of_z w32 c.place-place.result.frame fits) c.residue-of-frame.ensures in
-    let h = owner_here p.base.ticks p.depth es c.loop-entry.entry-index s (ranged p es c.as-slice-entry-items.ensures.value) c.loop-entry-test.true c.if-covers.ensures c.loop-entry.invariant in
-    told p.base.ticks h (to_z-of_z w32 c.args.t c.ranges.t) c.as-slice-entry-items.ensures.value
+    let s = sought p.base.ticks p.depth c.place-place.ensures.lies (to_z-of_z w32 c.place-place.result.frame fits) c.residue_of-frame.ensures in
+    let h = owner_here p.base.ticks p.depth es c.loop-entry.entry-index s (ranged p es c.as_slice-entry-items.ensures.value) c.loop-entry-test.true c.if-covers.ensures c.loop-entry.invariant in
+    told p.base.ticks h (to_z-of_z w32 c.args.t c.ranges.t) c.as_slice-entry-items.ensures.value
 
 pub returns : goal.returns
 returns c =
     let h = owner_none c.args.self.now.base.ticks _ _ _ c.loop-entry-test.false c.loop-entry.invariant in
-    told c.args.self.now.base.ticks h (to_z-of_z w32 c.args.t c.ranges.t) c.as-slice-entry-items.ensures.value
+    told c.args.self.now.base.ticks h (to_z-of_z w32 c.args.t c.ranges.t) c.as_slice-entry-items.ensures.value

@@ -13,10 +13,10 @@ returns c =
     let p = c.args.self.now in
     let b = c.args.self.now.base.ticks in
     let es = vec_items c.args.self.now.entries in
-    let value = passed b es c.find-owner.ensures (to_z-of_z w32 c.args.t c.ranges.t) in
+    let value = passed b es c.find_owner.ensures (to_z-of_z w32 c.args.t c.ranges.t) in
     let owned = subst (OwnedBy b es c.args.t) (sym value) (owned_is b es c.args.t) in
     record {
       value = value;
       owned = owned;
-      only = λ o w. one_owner b es c.args.t (λ k h. p.apart k (omega arith)) o c.find-owner.result w owned;
+      only = λ o w. one_owner b es c.args.t (λ k h. p.apart k (omega arith)) o c.find_owner.result w owned;
     }

@@ -7,8 +7,8 @@ none : (xs : List ℕ) → length xs ≡ 0 → xs ≡ []
 none [] e = refl
 none (x ∷ xs) e = absurd (omega arith)
 
-pub returns-then-at-end : goal.returns-then-at-end
-returns-then-at-end g c =
-    let e = c.if-at-end.ensures in
+pub returns-then-at_end : goal.returns-then-at_end
+returns-then-at_end g c =
+    let e = c.if-at_end.ensures in
     let size : length (rest c.args.self.now.reader) ≡ 0 = grind (arith, nat_tests) in
     (omega arith, none (rest c.args.self.now.reader) size, refl)

@@ -10,7 +10,7 @@ returns-in-Ok g c =
     line_goes
     g.R.SpareRule.distance g.R.SpareRule.patience g.R.SpareRule.step
     (state g.T.Timetable.owner g.T.Timetable.cycle g.R.SpareRule.distance g.R.SpareRule.patience c.args.self.now)
-    (state g.T.Timetable.owner g.T.Timetable.cycle g.R.SpareRule.distance g.R.SpareRule.patience c.read-line.new.self)
+    (state g.T.Timetable.owner g.T.Timetable.cycle g.R.SpareRule.distance g.R.SpareRule.patience c.read_line.new.self)
     (state g.T.Timetable.owner g.T.Timetable.cycle g.R.SpareRule.distance g.R.SpareRule.patience c.play.new.self)
     c.in-Ok.line c.in-Ok.command c.play.result
     (record {

@@ -8,13 +8,13 @@ returns-in-Ok c =
     let b = c.args.self.now in
     let size : length b.bytes ≡ 65536 = omega arith in
     let e = c.in-Ok.ensures in
-    put_behind b.bytes c.write-row.new.out (row_text c.args.row.now) b.used 65536 size b.within e.after c.in-Ok.size e.value
+    put_behind b.bytes c.write_row.new.out (row_text c.args.row.now) b.used 65536 size b.within e.after c.in-Ok.size e.value
 
 pub returns-in-Err : goal.returns-in-Err
 returns-in-Err c =
     let b = c.args.self.now in
     let size : length b.bytes ≡ 65536 = omega arith in
     let e = c.in-Err.ensures in (
-      kept_whole b.bytes c.write-row.new.out (row_text c.args.row.now) b.used 65536 size b.within e.after,
-      some_wait b.bytes c.write-row.new.out (row_text c.args.row.now) b.used 65536 size b.within e.after c.in-Err.field-0 e.value (omega (arith, e.short)),
+      kept_whole b.bytes c.write_row.new.out (row_text c.args.row.now) b.used 65536 size b.within e.after,
+      some_wait b.bytes c.write_row.new.out (row_text c.args.row.now) b.used 65536 size b.within e.after c.in-Err.field-0 e.value (omega (arith, e.short)),
     )

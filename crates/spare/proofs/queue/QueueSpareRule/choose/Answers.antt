@@ -12,16 +12,16 @@ pub invariant-of-self : goal.invariant-of-self
 invariant-of-self c =
     let q = c.args.self.now in
     let high = c.in-Some.ensures.high in
-    let e = c.to-end-self.ensures in
-    kept q.order _ c.to-end-self.result e (omega arith) q.long q.known q.once
+    let e = c.to_end-self.ensures in
+    kept q.order _ c.to_end-self.result e (omega arith) q.long q.known q.once
 
 pub returns : goal.returns
 returns c =
     let q = c.args.self.now in
     let i = c.in-Some.first in
     let h = c.in-Some.ensures in
-    let e = c.to-end-self.ensures in
+    let e = c.to_end-self.ensures in
     record {
-      chosen = names c.args.ready q.order q.long q.once i h q.known _ (omega arith) c.to-end-self.result e;
-      exact = moves c.args.ready q.order q.long q.once i h q.known c.to-end-self.result e;
+      chosen = names c.args.ready q.order q.long q.once i h q.known _ (omega arith) c.to_end-self.result e;
+      exact = moves c.args.ready q.order q.long q.once i h q.known c.to_end-self.result e;
     }

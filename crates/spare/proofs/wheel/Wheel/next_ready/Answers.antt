@@ -10,15 +10,15 @@ returns-in-Some c =
     let ready = is_ready c.args.ready in
     let m = c.args.self.now.mark in
     let i = c.in-Some.place in
-    let s = c.as-slice-places.ensures in
-    let next = next_ahead ready c.as-slice-places.result.now m (omega (arith, c.args.self.now.marked)) i c.in-Some.ensures in
+    let s = c.as_slice-places.ensures in
+    let next = next_ahead ready c.as_slice-places.result.now m (omega (arith, c.args.self.now.marked)) i c.in-Some.ensures in
     subst (λ (xs : List ℕ). NextAt ready xs m i) s.value next
 
 pub returns : goal.returns
 returns c =
     let ready = is_ready c.args.ready in
     let m = c.args.self.now.mark in
-    let o = c.first-ready-2.result in
-    let s = c.as-slice-places.ensures in
-    let next = next_of ready c.as-slice-places.result.now m (omega (arith, c.args.self.now.marked)) o c.in-default.ensures c.first-ready-2.ensures in
+    let o = c.first_ready-2.result in
+    let s = c.as_slice-places.ensures in
+    let next = next_of ready c.as_slice-places.result.now m (omega (arith, c.args.self.now.marked)) o c.in-default.ensures c.first_ready-2.ensures in
     subst (λ (xs : List ℕ). MatchOption o (NoneIn ready (after_mark xs m) 0 (length xs)) (NextAt ready xs m)) s.value next

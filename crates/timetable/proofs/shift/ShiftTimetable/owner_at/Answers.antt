@@ -15,6 +15,6 @@ returns g c =
     let s : ℤ = c.args.t -ℤ c.args.self.now.by in
     let most = g.met.T.Timetable.most c.args.self.now.below in
     let some : 0 < g.T.Timetable.cycle c.args.self.now.below = omega (arith, g.met.T.Timetable.least c.args.self.now.below) in
-    let e : c.tick-below.result ≡ floor_mod s (g.T.Timetable.cycle c.args.self.now.below) = passed length c.tick-below.ensures (omega (arith, ints)) in
-    c.owner-at.ensures ∙ ap (g.T.Timetable.owner below) (omega (arith, ints))
+    let e : c.tick_below.result ≡ floor_mod s (g.T.Timetable.cycle c.args.self.now.below) = passed length c.tick_below.ensures (omega (arith, ints)) in
+    c.owner_at.ensures ∙ ap (g.T.Timetable.owner below) (omega (arith, ints))
     ∙ repeats_mod (g.T.Timetable.owner below) length some (g.met.T.Timetable.repeats below) s
