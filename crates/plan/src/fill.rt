@@ -77,7 +77,7 @@ impl Plan {
         ensures shared { Shared base entries.now result }
     {
         let period = examine(base, depth, entries)?;
-        let copy = Vec::from_slice(self.entries.allocator(), entries)?;
+        let copy = Vec::from_slice(*self.entries.allocator(), entries)?;
         self.base = period;
         self.depth = depth;
         self.entries = copy;

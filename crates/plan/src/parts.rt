@@ -33,6 +33,6 @@ impl Plan {
         ensures depth { result.depth ≡ 0 }
         ensures entries { result.entries.items ≡ [] }
     {
-        Plan::empty(self.entries.allocator())
+        Plan::empty(*self.entries.allocator())
     }
 }

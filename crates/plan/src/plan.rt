@@ -4,8 +4,7 @@ ghost use Rattle.clock.specs.Floor.{floor_mod};
 ghost use Rattle.plan.specs.Entries.{NoClash};
 ghost use Rattle.plan.specs.Owners.{OwnedBy, owner_in};
 ghost use Rattle.plan.specs.Told.{Ranged};
-ghost use Rattle.plan.specs.Laws.{cycle_least, cycle_most};
-ghost use Rattle.std.proofs.Common.{rules, arith};
+ghost use Rattle.plan.specs.Laws.{cycle_least, cycle_most, owner_repeats, owner_stays_known};
 
 use crate::entry::{Entry, frames};
 use clock::{BasePeriod, Cycle};
@@ -79,9 +78,9 @@ impl Timetable for Plan {
 
     ghost most = { λ x. cycle_most x.base.ticks x.depth x.base.range.1 x.shallow };
 
-    ghost repeats = { first_of (Prim.search rules, Prim.grind (arith, Self.row.coded.inj)) };
+    ghost repeats = { λ x t. owner_repeats t x.base.ticks x.depth x.entries.items x.base.range.0 x.ranged };
 
-    ghost known = { first_of (Prim.search rules, Prim.grind (arith, Self.row.coded.inj)) };
+    ghost known = { λ x t. owner_stays_known t x.base.ticks x.depth x.entries.items x.ranged };
 
     fn owner_at(&self, t: i32) -> Option<u8>
         ensures value { result ≡ owner_in self.now.base.ticks self.now.entries.items t }

@@ -9,14 +9,17 @@ use Rattle.spare.specs.OrdersLemmas.{has_place, length_moved, times_moved, all_m
 use Rattle.spare.specs.SetsLemmas.{member_known, from_below}
 
 -- an order stays one, whoever goes to the end
-pub kept : (xs : List ℕ) (j : ℕ) (ys : List ℕ) → ys ≡ moved xs j → j < 16 → length xs ≡ 16 → ((k : ℕ) → k < 16 → get_or xs k 0 < 16) → ((a : ℕ) → a < 16 → times a xs ≡ 1) → (length ys ≡ 16) × (((k : ℕ) → k < 16 → get_or ys k 0 < 16) × (((a : ℕ) → a < 16 → times a ys ≡ 1) × Unit {0}))
-kept xs j ys e h long known once = (
-  ap length e ∙ length_moved xs j ∙ long,
-  (
-    subst (λ (zs : List ℕ). (k : ℕ) → k < 16 → get_or zs k 0 < 16) (sym e) (all_moved (λ x. x < 16) xs j long h known),
-    ((λ a l. ap (times a) e ∙ times_moved a xs j ∙ once a l), tt),
-  ),
-)
+pub record Kept (ys : List ℕ) : Type 0 where
+  pub long : length ys ≡ 16
+  pub known : (k : ℕ) → k < 16 → get_or ys k 0 < 16
+  pub once : (a : ℕ) → a < 16 → times a ys ≡ 1
+
+pub kept : (xs : List ℕ) (j : ℕ) (ys : List ℕ) → ys ≡ moved xs j → j < 16 → length xs ≡ 16 → ((k : ℕ) → k < 16 → get_or xs k 0 < 16) → ((a : ℕ) → a < 16 → times a xs ≡ 1) → Kept ys
+kept xs j ys e h long known once = record {
+  long = ap length e ∙ length_moved xs j ∙ long;
+  known = subst (λ (zs : List ℕ). (k : ℕ) → k < 16 → get_or zs k 0 < 16) (sym e) (all_moved (λ x. x < 16) xs j long h known);
+  once = λ a l. ap (times a) e ∙ times_moved a xs j ∙ once a l;
+}
 
 -- an order of all sixteen, each once
 module _ (s : ReadySet) (xs : List ℕ) (long : length xs ≡ 16) (once : (a : ℕ) → a < 16 → times a xs ≡ 1) where

@@ -59,7 +59,7 @@ impl Wheel {
         if !is_table(places) {
             return Err(WheelFault::Places);
         }
-        let copy = Vec::from_slice(self.places.allocator(), places)?;
+        let copy = Vec::from_slice(*self.places.allocator(), places)?;
         self.places = copy;
         self.mark = places.len() - 1;
         Ok(())

@@ -17,5 +17,5 @@ loop-column-preserved g c =
     let owner = g.T.Timetable.owner c.args.timetable.now in
     let cycle = g.T.Timetable.cycle c.args.timetable.now in
     pushed (Column owner cycle c.args.who) (string_bytes c.loop-column.text) (string_bytes c.push.new.self) c.loop-column.column c.character.result
-    (c.in-ok-push.ensures.bytes ∙ ap (λ xs. string_bytes c.loop-column.text ++ xs) (c.push.ensures.ascii c.character.ensures.ascii))
+    (c.in_ok-push.ensures.bytes ∙ ap (λ xs. string_bytes c.loop-column.text ++ xs) (c.push.ensures.ascii c.character.ensures.ascii))
     c.loop-column.invariant.0 c.loop-column.invariant.1 c.character.ensures.column

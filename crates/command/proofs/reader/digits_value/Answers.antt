@@ -13,34 +13,34 @@ nat_after_ge a (d ∷ ds) = omega (arith, nat_after_ge (a * 10 + (d - 48)) ds)
 step : (value i : ℕ) (ds : List ℕ) → i < length ds → nat_after value (drop i ds) ≡ nat_after (value * 10 + (get_or ds i 0 - 48)) (drop (i + 1) ds)
 step value i ds h = at_drop_more (nat_after value) ds i 0 h
 
-pub returns-in-err-tens : goal.returns-in-err-tens
-returns-in-err-tens c =
+pub returns-in_err-tens : goal.returns-in_err-tens
+returns-in_err-tens c =
     let ds = c.args.digits.now in
     let i = c.loop-d.d-index in
     let v = c.loop-d.value in
-    let big = c.in-err-tens.ensures in
+    let big = c.in_err-tens.ensures in
     let s = step v i ds (omega arith) in
     let g = nat_after_ge (v * 10 + (get_or ds i 0 - 48)) (drop (i + 1) ds) in
-    rw c.from-residual.ensures (grind (arith, nat_tests))
+    rw c.from_residual.ensures (grind (arith, nat_tests))
 
-pub returns-in-err-value : goal.returns-in-err-value
-returns-in-err-value c =
+pub returns-in_err-value : goal.returns-in_err-value
+returns-in_err-value c =
     let ds = c.args.digits.now in
     let i = c.loop-d.d-index in
     let v = c.loop-d.value in
-    let t = c.in-ok-tens.ensures in
-    let big = c.in-err-value.ensures in
+    let t = c.in_ok-tens.ensures in
+    let big = c.in_err-value.ensures in
     let s = step v i ds (omega arith) in
     let g = nat_after_ge (v * 10 + (get_or ds i 0 - 48)) (drop (i + 1) ds) in
-    rw c.from-residual-in-err-value.ensures (grind (arith, nat_tests))
+    rw c.from_residual-in_err-value.ensures (grind (arith, nat_tests))
 
 pub loop-d-preserved : goal.loop-d-preserved
 loop-d-preserved c =
     let s = step c.loop-d.value c.loop-d.d-index c.args.digits.now (omega arith) in
-    let t = c.in-ok-tens.ensures.1 in
-    let v = c.in-ok-value.ensures.1 in
+    let t = c.in_ok-tens.ensures.1 in
+    let v = c.in_ok-value.ensures.1 in
     let before = c.loop-d.invariant.0 in
-    (cc c.from.ensures, omega (arith, c.in-ok-value.ensures))
+    (cc c.from.ensures, omega (arith, c.in_ok-value.ensures))
 
 pub returns : goal.returns
 returns c =

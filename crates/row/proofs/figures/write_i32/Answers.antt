@@ -9,8 +9,8 @@ use Rattle.row.specs.Rows.{room, placed}
 use Rattle.row.proofs.Laid.{lent, minus, placed_is}
 use Rattle.row.proofs.figures.write_i32.Goals as goal
 
-pub overflow-add-digit_count : goal.overflow-add-digit_count
-overflow-add-digit_count c = omega (arith, length-decimal-le 10 c.unsigned_abs-size.result (omega arith) (omega arith) (omega arith))
+pub overflow_add-digit_count : goal.overflow_add-digit_count
+overflow_add-digit_count c = omega (arith, length-decimal-le 10 c.unsigned_abs-size.result (omega arith) (omega arith) (omega arith))
 
 pub returns-in-Some : goal.returns-in-Some
 returns-in-Some c =

@@ -25,11 +25,11 @@ loop-at-preserved c =
       omega arith,
     )
 
-pub overflow-cast-out-2 : goal.overflow-cast-out-2
-overflow-cast-out-2 c = omega (arith, digit_from_length c.loop-at.left (omega arith) (omega (arith, c.loop-at.invariant.0)))
+pub overflow_cast-out-2 : goal.overflow_cast-out-2
+overflow_cast-out-2 c = omega (arith, digit_from_length c.loop-at.left (omega arith) (omega (arith, c.loop-at.invariant.0)))
 
-pub overflow-add-out-2 : goal.overflow-add-out-2
-overflow-add-out-2 c = omega (arith, digit_from_length c.loop-at.left (omega arith) (omega (arith, c.loop-at.invariant.0)))
+pub overflow_add-out-2 : goal.overflow_add-out-2
+overflow_add-out-2 c = omega (arith, digit_from_length c.loop-at.left (omega arith) (omega (arith, c.loop-at.invariant.0)))
 
 pub bounds-out-0 : goal.bounds-out-0
 bounds-out-0 c = omega (arith, decimal_nonempty c.args.n (omega arith))

@@ -5,8 +5,8 @@ use Rattle.row.specs.Rows.{fields_text}
 use Rattle.row.proofs.Laid.{fields_next}
 use Rattle.row.proofs.write.fields_size.Goals as goal
 
-pub overflow-add-size : goal.overflow-add-size
-overflow-add-size c = omega (arith, c.loop-i.invariant.1, c.field_size-size.ensures.bound)
+pub overflow_add-size : goal.overflow_add-size
+overflow_add-size c = omega (arith, c.loop-i.invariant.1, c.field_size-size.ensures.bound)
 
 pub loop-i-preserved : goal.loop-i-preserved
 loop-i-preserved c =

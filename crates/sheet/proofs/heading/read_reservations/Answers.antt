@@ -4,4 +4,4 @@ use Rattle.sheet.proofs.heading.read_reservations.Goals as goal
 
 pub loop-k-preserved : goal.loop-k-preserved
 loop-k-preserved c =
-    list_more c.args.bytes.now c.loop-k.k c.loop-k.list c.in-ok-list.field-0 (omega arith) c.loop-k.invariant c.in-ok-list.ensures
+    list_more c.args.bytes.now c.loop-k.k c.loop-k.list c.in_ok-list.field-0 (omega arith) c.loop-k.invariant c.in_ok-list.ensures

@@ -2,13 +2,13 @@ use Rattle.std.proofs.Common.{rules}
 use Rattle.command.specs.Reading.{field_in, field_rest}
 use Rattle.command.proofs.reader.Reader.field.Goals as goal
 
-pub returns-in-err-expect : goal.returns-in-err-expect
+pub returns-in_err-expect : goal.returns-in_err-expect
 unfolding field_in field_rest
-returns-in-err-expect c = search rules
+returns-in_err-expect c = search rules
 
-pub returns-in-err-n : goal.returns-in-err-n
+pub returns-in_err-n : goal.returns-in_err-n
 unfolding field_in field_rest
-returns-in-err-n c = search rules
+returns-in_err-n c = search rules
 
 pub returns-then-n-most : goal.returns-then-n-most
 unfolding field_in field_rest

@@ -26,6 +26,6 @@ pub returns-in-e : goal.returns-in-e
 unfolding fields_in fields_rest
 returns-in-e c = search rules
 
-pub returns-in-default : goal.returns-in-default
+pub returns-in_default : goal.returns-in_default
 unfolding fields_in fields_rest
-returns-in-default c = search rules
+returns-in_default c = search rules

@@ -23,8 +23,8 @@ returns-then-end-from-gt1 c =
     let zero : i + 0 ≡ i = omega arith in
     record { value = grind (arith, nat_tests); after = refl; line = refl }
 
-pub slice-bounds-digits_value-end : goal.slice-bounds-digits_value-end
-slice-bounds-digits_value-end c =
+pub slice_bounds-digits_value-end : goal.slice_bounds-digits_value-end
+slice_bounds-digits_value-end c =
     let xs = c.args.self.now.bytes.now in
     let i = c.args.self.now.at in
     let n = prefix_len-le-length is_digit (drop i xs) in
@@ -42,8 +42,8 @@ digits_value-requires c =
     let k-run : k < prefix_len is_digit (drop i xs) = omega arith in
     rw (get_or-take n (drop i xs) k 0 k-n) (leading_passes is_digit (drop i xs) k 0 k-run)
 
-pub returns-in-default : goal.returns-in-default
-returns-in-default c =
+pub returns-in_default : goal.returns-in_default
+returns-in_default c =
     let xs = c.args.self.now.bytes.now in
     let i = c.args.self.now.at in
     let first = get_or-drop i xs 0 0 in
@@ -57,7 +57,7 @@ returns-in-default c =
     let same : take (c.run_end-end.result - i) (drop i xs) ≡ take (prefix_len is_digit (drop i xs)) (drop i xs) =
     ap (λ n. take n (drop i xs)) (omega arith)
     in
-    let v = simp same at c.in-default.ensures in
+    let v = simp same at c.in_default.ensures in
     record { value = grind (arith, nat_tests); after = refl; line = refl }
 
 pub returns : goal.returns

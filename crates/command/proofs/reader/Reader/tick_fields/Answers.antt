@@ -2,9 +2,9 @@ use Rattle.std.proofs.Common.{rules}
 use Rattle.command.specs.Reading.{tick_in}
 use Rattle.command.proofs.reader.Reader.tick_fields.Goals as goal
 
-pub returns-in-err-count : goal.returns-in-err-count
+pub returns-in_err-count : goal.returns-in_err-count
 unfolding tick_in
-returns-in-err-count c = search rules
+returns-in_err-count c = search rules
 
 pub returns-then-count-eq0 : goal.returns-then-count-eq0
 unfolding tick_in

@@ -18,8 +18,8 @@ credit-requires c =
     let lt : c.args.self.now.clock <ℤ pos 2147483647 = by_lt_z c.args.self.now.clock (pos 2147483647) (λ l. l) (λ l. absurd (ne (omega (arith, ints)))) in
     (c.requires.0, λ a l. room c.args.self.now.clock _ lt (c.args.self.now.little a l))
 
-pub invariant-of-self : goal.invariant-of-self
-invariant-of-self c =
+pub invariant_of-self : goal.invariant_of-self
+invariant_of-self c =
     let ne = c.requires.1.1 in
     let fc : SFits w32 c.args.self.now.clock = search rules in
     let lt : c.args.self.now.clock <ℤ pos 2147483647 = by_lt_z c.args.self.now.clock (pos 2147483647) (λ l. l) (λ l. absurd (ne (omega (arith, ints)))) in

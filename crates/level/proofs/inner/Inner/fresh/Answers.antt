@@ -3,8 +3,8 @@ use Rattle.std.proofs.lemmas.Int.{ints, to_z-of_z}
 use Rattle.level.proofs.Counted.{ran_fresh, used_fresh}
 use Rattle.level.proofs.inner.Inner.fresh.Goals as goal
 
-pub invariant-of-result : goal.invariant-of-result
-invariant-of-result c =
+pub invariant_of-result : goal.invariant_of-result
+invariant_of-result c =
     let f = c.ranges.clock in
     let e = to_z-of_z w32 c.args.clock f in
     (ran_fresh (to_z w32 (of_z w32 c.args.clock)) (omega (arith, ints)) _ c.unused.ensures.ran 16, (used_fresh (to_z w32 (of_z w32 c.args.clock)) (omega (arith, ints)) 16, tt))

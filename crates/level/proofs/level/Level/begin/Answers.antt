@@ -15,7 +15,7 @@ returns-in-Ok g c =
     let fs = c.ranges.start in
     let fd = c.ranges.deadline in
     let fc : SFits w32 c.args.self.now.inner.clock = search rules in
-    let fine = simp to_z-of_z at c.in-default.ensures in
+    let fine = simp to_z-of_z at c.in_default.ensures in
     let given = simp to_z-of_z at c.in-Ok.ensures in
     let took = simp to_z-of_z at c.take_seat.ensures in
     record {
@@ -30,7 +30,7 @@ returns-in-Err g c =
     let fs = c.ranges.start in
     let fd = c.ranges.deadline in
     let fc : SFits w32 c.args.self.now.inner.clock = search rules in
-    let fine = simp to_z-of_z at c.in-default.ensures in
+    let fine = simp to_z-of_z at c.in_default.ensures in
     let few = simp to_z-of_z at c.in-Err.ensures in
     record {
       called = called _ _ _ (few_step g.T.Timetable.owner g.T.Timetable.cycle g.R.SpareRule.distance g.R.SpareRule.patience c.args.self.now c.args.seat c.args.activity c.args.start c.args.estimate c.args.deadline c.give.new.board c.in-Err.available

@@ -6,12 +6,12 @@ use Rattle.plan.specs.Told.{Told}
 use Rattle.plan.proofs.Answered.{told_as, only_told, refused}
 use Rattle.plan.proofs.plan.Plan.fill.Goals as goal
 
-pub returns-in-err-period : goal.returns-in-err-period
-returns-in-err-period c =
+pub returns-in_err-period : goal.returns-in_err-period
+returns-in_err-period c =
     let b = c.args.base in
     let d = c.args.depth in
     let es = c.args.entries.now in
-    let p = err_from_is_err_and c.from-residual.result c.from-residual.ensures.1 in
-    let t = told_as BasePeriod (Unit {0}) b d es c.in-err-period.field-0.0 c.in-err-period.ensures.told in
-    let all = refused b d es c.args.self.now c.from-residual.result p.0 p.1 (subst (λ e. Told {U = Unit {0}} b d es (Err e)) (sym p.2) t) in
+    let p = err_from_is_err_and c.from_residual.result c.from_residual.ensures.1 in
+    let t = told_as BasePeriod (Unit {0}) b d es c.in_err-period.field-0.0 c.in_err-period.ensures.told in
+    let all = refused b d es c.args.self.now c.from_residual.result p.0 p.1 (subst (λ e. Told {U = Unit {0}} b d es (Err e)) (sym p.2) t) in
     record { told = all.told; only = all.only; after = all.after; shared = all.shared }

@@ -9,7 +9,7 @@ returns-then-append g c = ([], nothing, c.if-append.ensures)
 
 pub returns-then-append-2 : goal.returns-then-append-2
 returns-then-append-2 g c =
-    let sent = c.in-ok-flush.ensures in
+    let sent = c.in_ok-flush.ensures in
     let same = c.if-append.ensures.0 in
     let put = c.if-append-2.ensures in (
       waiting c.append.new.self,

@@ -2,18 +2,19 @@ use Rattle.std.proofs.Common.{arith}
 use Rattle.spare.proofs.Queues.{kept, nobody, stays, names, moves}
 use Rattle.spare.proofs.queue.QueueSpareRule.choose.Goals as goal
 
-pub returns-in-default : goal.returns-in-default
-returns-in-default c =
+pub returns-in_default : goal.returns-in_default
+returns-in_default c =
     let q = c.args.self.now in
-    let h = c.in-default.ensures in
+    let h = c.in_default.ensures in
     record { chosen = nobody c.args.ready q.order q.long q.once h; exact = stays c.args.ready q.order q.long q.once h }
 
-pub invariant-of-self : goal.invariant-of-self
-invariant-of-self c =
+pub invariant_of-self : goal.invariant_of-self
+invariant_of-self c =
     let q = c.args.self.now in
     let high = c.in-Some.ensures.high in
     let e = c.to_end-self.ensures in
-    kept q.order _ c.to_end-self.result e (omega arith) q.long q.known q.once
+    let k = kept q.order _ c.to_end-self.result e (omega arith) q.long q.known q.once in
+    record { long = k.long; known = k.known; once = k.once }
 
 pub returns : goal.returns
 returns c =

@@ -20,5 +20,5 @@ returns c =
     let m = c.args.self.now.mark in
     let o = c.first_ready-2.result in
     let s = c.as_slice-places.ensures in
-    let next = next_of ready c.as_slice-places.result.now m (omega (arith, c.args.self.now.marked)) o c.in-default.ensures c.first_ready-2.ensures in
+    let next = next_of ready c.as_slice-places.result.now m (omega (arith, c.args.self.now.marked)) o c.in_default.ensures c.first_ready-2.ensures in
     subst (λ (xs : List ℕ). MatchOption o (NoneIn ready (after_mark xs m) 0 (length xs)) (NextAt ready xs m)) s.value next

@@ -7,11 +7,11 @@ use Rattle.spare.specs.Wheels.{WheelStep, after_mark}
 use Rattle.spare.specs.Rounds.{nobody, stays, names, turns}
 use Rattle.spare.proofs.wheel_rule.WheelSpareRule.choose.Goals as goal
 
-pub returns-in-default : goal.returns-in-default
-returns-in-default c =
+pub returns-in_default : goal.returns-in_default
+returns-in_default c =
     let w = c.args.self.now in
     let xs = vec_items w.places in
-    let h = c.in-default.ensures in
+    let h = c.in_default.ensures in
     record { chosen = nobody c.args.ready xs w.mark (omega (arith, w.marked)) w.all (vec_len w.places - 1) h; exact = stays c.args.ready xs w.mark (omega (arith, w.marked)) w.all h }
 
 pub returns : goal.returns
