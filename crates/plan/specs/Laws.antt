@@ -60,11 +60,11 @@ owner_known b d t [] w = tt
 owner_known b d t (e ∷ es) w = chosen_known (owns b e t) e.activity (owner_in b es t) w.0.0 (owner_known b d t es w.1)
 
 -- both for the entries of a plan, which are in range one by one
-pub owner_repeats : (t : ℤ) (b d : ℕ) (es : List Entry) → 1 ≤ b → Ranged b d es (length es) → owner_in b es (t +ℤ pos (b * 2 ^ d)) ≡ owner_in b es t
-owner_repeats t b d es h w = owner_again t b d (omega arith) es (all_ranged b d es w)
+pub owner_repeats : (t : ℤ) (b d n : ℕ) (es : List Entry) → 1 ≤ b → n ≡ length es → Ranged b d es n → owner_in b es (t +ℤ pos (b * 2 ^ d)) ≡ owner_in b es t
+owner_repeats t b d n es h e w = owner_again t b d (omega arith) es (all_ranged b d es (λ k l. w k (omega arith)))
 
-pub owner_stays_known : (t : ℤ) (b d : ℕ) (es : List Entry) → Ranged b d es (length es) → Known (owner_in b es t)
-owner_stays_known t b d es w = owner_known b d t es (all_ranged b d es w)
+pub owner_stays_known : (t : ℤ) (b d n : ℕ) (es : List Entry) → n ≡ length es → Ranged b d es n → Known (owner_in b es t)
+owner_stays_known t b d n es e w = owner_known b d t es (all_ranged b d es (λ k l. w k (omega arith)))
 
 -- where a tick lies, as the search asks for it: its frame's residue at the depth of the plan, and its offset
 pub record Sought (b d : ℕ) (t : ℤ) (n o : ℕ) : Type 0 where

@@ -78,9 +78,9 @@ impl Timetable for Plan {
 
     ghost most = { λ x. cycle_most x.base.ticks x.depth x.base.range.1 x.shallow };
 
-    ghost repeats = { λ x t. owner_repeats t x.base.ticks x.depth x.entries.items x.base.range.0 x.ranged };
+    ghost repeats = { λ x t. owner_repeats t x.base.ticks x.depth (vec_len x.entries) x.entries.items x.base.range.0 x.entries.ok.0 x.ranged };
 
-    ghost known = { λ x t. owner_stays_known t x.base.ticks x.depth x.entries.items x.ranged };
+    ghost known = { λ x t. owner_stays_known t x.base.ticks x.depth (vec_len x.entries) x.entries.items x.entries.ok.0 x.ranged };
 
     fn owner_at(&self, t: i32) -> Option<u8>
         ensures value { result ≡ owner_in self.now.base.ticks self.now.entries.items t }

@@ -23,7 +23,7 @@ invariant_of-self c =
     let ne = c.requires.1.1 in
     let fc : SFits w32 c.args.self.now.clock = search rules in
     let lt : c.args.self.now.clock <ℤ pos 2147483647 = by_lt_z c.args.self.now.clock (pos 2147483647) (λ l. l) (λ l. absurd (ne (omega (arith, ints)))) in
-    let e : to_z w32 (of_z w32 (to_z w32 (of_z w32 c.args.self.now.clock) +ℤ pos 1)) ≡ c.args.self.now.clock +ℤ pos 1 = omega (arith, ints) in (
-      ran_more c.args.self.now.clock _ e c.args.self.now.seats _ (λ s. is_for s c.args.letter) c.tally_seat.ensures c.args.self.now.few,
-      (used_more c.args.self.now.clock _ e c.args.self.now.used _ c.args.runner c.credit.ensures c.args.self.now.little, tt),
-    )
+    let e : to_z w32 (of_z w32 (to_z w32 (of_z w32 c.args.self.now.clock) +ℤ pos 1)) ≡ c.args.self.now.clock +ℤ pos 1 = omega (arith, ints) in record {
+      few = ran_more c.args.self.now.clock _ e c.args.self.now.seats _ (λ s. is_for s c.args.letter) c.tally_seat.ensures c.args.self.now.few;
+      little = used_more c.args.self.now.clock _ e c.args.self.now.used _ c.args.runner c.credit.ensures c.args.self.now.little;
+    }

@@ -7,4 +7,4 @@ pub invariant_of-self : goal.invariant_of-self
 invariant_of-self c =
     let i : c.args.seat < length c.args.self.now.seats = search rules in
     let e : c.free-ran.new.self.ran ≡ (get_or c.args.self.now.seats c.args.seat no_seat).ran = c.free-ran.ensures.count in
-    (ran_set c.args.self.now.clock c.args.self.now.seats c.args.seat c.free-ran.new.self i (omega arith) c.args.self.now.few c.requires, (c.args.self.now.little, tt))
+    record { few = ran_set c.args.self.now.clock c.args.self.now.seats c.args.seat c.free-ran.new.self i (omega arith) c.args.self.now.few c.requires; little = c.args.self.now.little }
