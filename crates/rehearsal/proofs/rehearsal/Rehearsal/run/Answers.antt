@@ -9,16 +9,16 @@ use Rattle.rehearsal.proofs.rehearsal.Rehearsal.run.Goals as goal
 pub loop-row-init : goal.loop-row-init
 loop-row-init g c = begins (waiting c.new-rows.result) c.new-rows.ensures
 
-pub loop-row-smaller-in-Continue· : goal.loop-row-smaller-in-Continue·
-loop-row-smaller-in-Continue· g c = told_falls g.R.SpareRule.distance g.R.SpareRule.patience g.R.SpareRule.step (state g.T.Timetable.owner g.T.Timetable.cycle g.R.SpareRule.distance g.R.SpareRule.patience c.loop-row.self) c.in-Told.row (state g.T.Timetable.owner g.T.Timetable.cycle g.R.SpareRule.distance g.R.SpareRule.patience c.advance.new.self) c.in-Told.ensures
+pub loop-row-smaller-in-Continue-1 : goal.loop-row-smaller-in-Continue-1
+loop-row-smaller-in-Continue-1 g c = told_falls g.R.SpareRule.distance g.R.SpareRule.patience g.R.SpareRule.step (state g.T.Timetable.owner g.T.Timetable.cycle g.R.SpareRule.distance g.R.SpareRule.patience c.loop-row.self) c.in-Told.row (state g.T.Timetable.owner g.T.Timetable.cycle g.R.SpareRule.distance g.R.SpareRule.patience c.advance.new.self) c.in-Told.ensures
 
-pub loop-row-preserved-in-Continue· : goal.loop-row-preserved-in-Continue·
-loop-row-preserved-in-Continue· g c =
+pub loop-row-preserved-in-Continue-1 : goal.loop-row-preserved-in-Continue-1
+loop-row-preserved-in-Continue-1 g c =
     let p = c.in_ok-put.ensures in
     tells c.loop-row.invariant c.in-Told.row (state g.T.Timetable.owner g.T.Timetable.cycle g.R.SpareRule.distance g.R.SpareRule.patience c.advance.new.self) c.in-Told.ensures p.0 c.put.new.sink (waiting c.put.new.self) p.1 p.2
 
-pub returns-in_err-put : goal.returns-in_err-put
-returns-in_err-put g c =
+pub returns-in_err-put-in-Told : goal.returns-in_err-put-in-Told
+returns-in_err-put-in-Told g c =
     let p = err_from_is_err_and c.from_residual.result c.from_residual.ensures.1 in
     runs_broken c.from_residual.result p.0 c.in_err-put.field-0.0 (state g.T.Timetable.owner g.T.Timetable.cycle g.R.SpareRule.distance g.R.SpareRule.patience c.advance.new.self) c.put.new.sink p.1 p.2
     (breaks c.loop-row.invariant c.in-Told.row (state g.T.Timetable.owner g.T.Timetable.cycle g.R.SpareRule.distance g.R.SpareRule.patience c.advance.new.self) c.in-Told.ensures c.in_err-put.field-0.0 c.put.new.sink c.in_err-put.ensures.0)
