@@ -17,7 +17,7 @@ mod tests {
 
     // Whether the plan is still the example plan.
     fn is_example(plan: &Plan) -> bool {
-        plan.base().ticks == 10 && plan.depth() == 2 && plan.entries() == &EXAMPLE_ENTRIES
+        plan.base().ticks == 10 && plan.depth() == 2 && plan.entries() == EXAMPLE_ENTRIES.as_slice()
     }
 
     // An entry of depth 5, by its place in a row of entries of which no two clash.

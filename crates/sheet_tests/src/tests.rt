@@ -18,7 +18,7 @@ fn full_list() -> [Reservation; 16] {
 }
 
 fn is_example(plan: &Plan) -> bool {
-    plan.base().ticks == 10 && plan.depth() == 2 && plan.entries() == &EXAMPLE_ENTRIES
+    plan.base().ticks == 10 && plan.depth() == 2 && plan.entries() == EXAMPLE_ENTRIES.as_slice()
 }
 
 // The sheet of the example plan with one reservation.

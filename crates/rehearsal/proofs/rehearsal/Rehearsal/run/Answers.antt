@@ -14,14 +14,14 @@ loop-row-smaller-in-Continue-1 g c = told_falls g.R.SpareRule.distance g.R.Spare
 
 pub loop-row-preserved-in-Continue-1 : goal.loop-row-preserved-in-Continue-1
 loop-row-preserved-in-Continue-1 g c =
-    let p = c.in_ok-put.ensures in
+    let p = c.in_ok-put-in-Told.ensures in
     tells c.loop-row.invariant c.in-Told.row (state g.T.Timetable.owner g.T.Timetable.cycle g.R.SpareRule.distance g.R.SpareRule.patience c.advance.new.self) c.in-Told.ensures p.0 c.put.new.sink (waiting c.put.new.self) p.1 p.2
 
 pub returns-in_err-put-in-Told : goal.returns-in_err-put-in-Told
 returns-in_err-put-in-Told g c =
     let p = err_from_is_err_and c.from_residual.result c.from_residual.ensures.1 in
-    runs_broken c.from_residual.result p.0 c.in_err-put.field-0.0 (state g.T.Timetable.owner g.T.Timetable.cycle g.R.SpareRule.distance g.R.SpareRule.patience c.advance.new.self) c.put.new.sink p.1 p.2
-    (breaks c.loop-row.invariant c.in-Told.row (state g.T.Timetable.owner g.T.Timetable.cycle g.R.SpareRule.distance g.R.SpareRule.patience c.advance.new.self) c.in-Told.ensures c.in_err-put.field-0.0 c.put.new.sink c.in_err-put.ensures.0)
+    runs_broken c.from_residual.result p.0 c.in_err-put-in-Told.field-0.0 (state g.T.Timetable.owner g.T.Timetable.cycle g.R.SpareRule.distance g.R.SpareRule.patience c.advance.new.self) c.put.new.sink p.1 p.2
+    (breaks c.loop-row.invariant c.in-Told.row (state g.T.Timetable.owner g.T.Timetable.cycle g.R.SpareRule.distance g.R.SpareRule.patience c.advance.new.self) c.in-Told.ensures c.in_err-put-in-Told.field-0.0 c.put.new.sink c.in_err-put-in-Told.ensures.0)
 
 pub loop-row-smaller : goal.loop-row-smaller
 loop-row-smaller g c = line_falls g.R.SpareRule.distance g.R.SpareRule.patience g.R.SpareRule.step (state g.T.Timetable.owner g.T.Timetable.cycle g.R.SpareRule.distance g.R.SpareRule.patience c.loop-row.self) [] (state g.T.Timetable.owner g.T.Timetable.cycle g.R.SpareRule.distance g.R.SpareRule.patience c.advance.new.self) c.in-Silent.ensures
