@@ -4,7 +4,7 @@ use Rattle.level.specs.Meaning.{Meaning, Event}
 use Rattle.level.specs.Together.{Entry, Tagged, Together, nothing, called, own_history, put}
 use Rattle.level.specs.Promises.{Stands, AllStand}
 use Rattle.level.specs.Levels.{Called, Opened}
-use Rattle.rehearsal.specs.Played.{Stage, Through, no_more, call_then}
+use Rattle.rehearsal.specs.Stages.{Stage, Through, no_more, call_then}
 use Rattle.rehearsal.specs.Whole.{calls_in}
 
 -- a history has led the level 0 to m, by these calls

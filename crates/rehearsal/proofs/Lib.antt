@@ -1,6 +1,7 @@
 mod Tickets
 mod Playing
 mod Going
+mod GoingOn
 mod PlayedOut
 mod Running
 mod Histories

@@ -26,8 +26,8 @@ use Rattle.command.proofs.Says.{read_once}
 use Rattle.row.specs.declared.row.Row.{Row}
 use Rattle.row.specs.declared.row.Row.TheVariants.{Malformed}
 use Rattle.rehearsal.specs.Calls.{rows_of, MakesAll}
-use Rattle.rehearsal.specs.Played.{Stage, Through}
-use Rattle.rehearsal.specs.Rehearsals.{malformed_row}
+use Rattle.rehearsal.specs.Stages.{Stage, Through}
+use Rattle.rehearsal.specs.Onwards.{malformed_row}
 use Rattle.rehearsal.specs.Whole.{held_distance, held_patience, held_step, Fresh, Start, PlayedFrom, ScriptRows, unopened, played, Rehearsed, sheet_refused, on_sheet, ScriptRowsOnce, RowsOnce}
 use Rattle.rehearsal.proofs.SameRules.{SameRule, same_meaning}
 use Rattle.rehearsal.proofs.SameCalls.{SameStage, same_level, commands_agree, calls_once}

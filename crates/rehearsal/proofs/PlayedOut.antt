@@ -15,8 +15,9 @@ use Rattle.row.specs.declared.row.Row.{Row}
 use Rattle.row.specs.declared.row.Row.TheVariants.{Ran, TickRefused, Malformed}
 use Rattle.rehearsal.specs.declared.rehearsal.Progress.TheVariants.{Told, Silent, Over}
 use Rattle.rehearsal.specs.Calls.{call_rows, rows_of, TicksOf, all_run, one_run, stopped, Makes, MakesAll, no_calls, then_calls}
-use Rattle.rehearsal.specs.Played.{Stage, CallOn, Through, no_more, call_then, Plays}
-use Rattle.rehearsal.specs.Rehearsals.{State, ticks_after, line_after, malformed_row, TickRun, Follows, LinePlayed, LineRefused, Goes, Onwards, not_yet, on_by, PlaysOut}
+use Rattle.rehearsal.specs.Stages.{Stage, CallOn, Through, no_more, call_then, PlaysCommand}
+use Rattle.rehearsal.specs.Rehearsals.{ticks_after}
+use Rattle.rehearsal.specs.Onwards.{Standing, line_after, malformed_row, RunsTick, RunsCommand, RunsLine, StopsAtLine, RunsOn, Onwards, not_yet, on_by, PlaysOut}
 
 -- Lists of calls.
 
@@ -48,7 +49,7 @@ module _ {R : Type 0} (distance : R → ℕ → ℕ) (patience : R → ℕ) (ste
   through_then (call_then p' c a) b = call_then p' c (through_then a b)
 
   -- nothing is left
-  nothing_left : (s : State R) → s.ticks ≡ 0 → s.text ≡ [] → PlaysOut distance patience step s [] s.on
+  nothing_left : (s : Standing R) → s.ticks ≡ 0 → s.text ≡ [] → PlaysOut distance patience step s [] s.on
   nothing_left s k t = record {
     due = [];
     ticks = subst (λ (n : ℕ). TicksOf n []) (sym k) all_run;
@@ -62,7 +63,7 @@ module _ {R : Type 0} (distance : R → ℕ → ℕ) (patience : R → ℕ) (ste
   }
 
   -- a tick of the line before comes first
-  tick_first : (s u : State R) (row : Row) (rows : List Row) (last : Stage R) (answer : Result Ticked Refusal) →
+  tick_first : (s u : Standing R) (row : Row) (rows : List Row) (last : Stage R) (answer : Result Ticked Refusal) →
       0 < s.ticks → CallOn distance patience step s.on (tick_event answer) u.on → row ∷ [] ≡ call_rows (tick_event answer) → u.text ≡ s.text → u.line ≡ s.line →
       u.ticks ≡ ticks_after row s.ticks → PlaysOut distance patience step u rows last → PlaysOut distance patience step s (row ∷ rows) last
   tick_first s u row rows last (Ok e) due c told text line ticks o =
@@ -109,7 +110,7 @@ module _ {R : Type 0} (distance : R → ℕ → ℕ) (patience : R → ℕ) (ste
     pub told : rows ≡ rows_of now_made
     pub plain : Opens c → ⊥
 
-  by_calls : (p : Stage R) (c : Command) (rows : List Row) (p' : Stage R) (k : ℕ) (due : List Event) → TicksOf k due → Plays distance patience step p c rows p' × (k ≡ 0) → (Opens c → ⊥) → Made p c rows p' due
+  by_calls : (p : Stage R) (c : Command) (rows : List Row) (p' : Stage R) (k : ℕ) (due : List Event) → TicksOf k due → PlaysCommand distance patience step p c rows p' × (k ≡ 0) → (Opens c → ⊥) → Made p c rows p' due
   by_calls p c rows p' k due t f o = record {
     now_made = f.0.calls;
     makes = subst (λ (z : List Event). Makes c z) (sym (ap (λ z. f.0.calls ++ z) (no_ticks t f.1) ∙ append-nil f.0.calls)) f.0.says;
@@ -118,7 +119,7 @@ module _ {R : Type 0} (distance : R → ℕ → ℕ) (patience : R → ℕ) (ste
     plain = o;
   }
 
-  made : (p : Stage R) (c : Command) (rows : List Row) (p' : Stage R) (k : ℕ) (due : List Event) → TicksOf k due → Follows distance patience step p c rows p' k → Made p c rows p' due
+  made : (p : Stage R) (c : Command) (rows : List Row) (p' : Stage R) (k : ℕ) (due : List Event) → TicksOf k due → RunsCommand distance patience step p c rows p' k → Made p c rows p' due
   made p (Open t r) rows p' k due d f = absurd f
   made p (Wake a) rows p' k due d f = by_calls p (Wake a) rows p' k due d f (λ x. x)
   made p (Block a) rows p' k due d f = by_calls p (Block a) rows p' k due d f (λ x. x)
@@ -133,7 +134,7 @@ module _ {R : Type 0} (distance : R → ℕ → ℕ) (patience : R → ℕ) (ste
   made p (End s) rows p' k due d f = by_calls p (End s) rows p' k due d f (λ x. x)
 
   -- a line comes first
-  line_first : (s u : State R) (rows rows' : List Row) (last : Stage R) → LinePlayed distance patience step s rows u → PlaysOut distance patience step u rows' last → PlaysOut distance patience step s (rows ++ rows') last
+  line_first : (s u : Standing R) (rows rows' : List Row) (last : Stage R) → RunsLine distance patience step s rows u → PlaysOut distance patience step u rows' last → PlaysOut distance patience step s (rows ++ rows') last
   line_first s u rows rows' last g o =
       let m = made s.on g.command rows u.on u.ticks o.due o.ticks g.follows in
       let joined : (m.now_made ++ o.due) ++ o.calls ≡ m.now_made ++ (o.due ++ o.calls) = append_assoc m.now_made o.due o.calls in
@@ -159,7 +160,7 @@ module _ {R : Type 0} (distance : R → ℕ → ℕ) (patience : R → ℕ) (ste
       }
 
   -- a malformed line comes first, and nothing after it
-  refused_first : (s u : State R) (row : Row) (rows : List Row) (last : Stage R) → LineRefused distance patience step s row u → PlaysOut distance patience step u rows last → PlaysOut distance patience step s (row ∷ rows) last
+  refused_first : (s u : Standing R) (row : Row) (rows : List Row) (last : Stage R) → StopsAtLine distance patience step s row u → PlaysOut distance patience step u rows last → PlaysOut distance patience step s (row ∷ rows) last
   refused_first s u row rows last g o =
       let due-none : o.due ≡ [] = no_ticks o.ticks g.ticks in
       let none = no_commands o.commands o.tail (sym g.text ∙ o.says.lines) in
@@ -182,10 +183,10 @@ module _ {R : Type 0} (distance : R → ℕ → ℕ) (patience : R → ℕ) (ste
         told = ap (λ z. z ∷ rows) g.told ∙ (ap (λ z. Malformed s.line ∷ z) told_none ∙ sym (first_row s.text s.line g.some));
       }
 
-  from_there : {s v : State R} {rows : List Row} (last : Stage R) → v ≡ s → PlaysOut distance patience step v rows last → PlaysOut distance patience step s rows last
-  from_there {s} {v} {rows} last e o = subst (λ (z : State R). PlaysOut distance patience step z rows last) e o
+  from_there : {s v : Standing R} {rows : List Row} (last : Stage R) → v ≡ s → PlaysOut distance patience step v rows last → PlaysOut distance patience step s rows last
+  from_there {s} {v} {rows} last e o = subst (λ (z : Standing R). PlaysOut distance patience step z rows last) e o
 
-  pub played_out : {s : State R} {rows : List Row} {u : State R} → Onwards distance patience step s rows u → u.ticks ≡ 0 → u.text ≡ [] → PlaysOut distance patience step s rows u.on
+  pub played_out : {s : Standing R} {rows : List Row} {u : Standing R} → Onwards distance patience step s rows u → u.ticks ≡ 0 → u.text ≡ [] → PlaysOut distance patience step s rows u.on
   played_out {s} not_yet k t = nothing_left s k t
   played_out {s} {rows} {u} (on_by (Told row) v (inl g) o) k t =
       tick_first s v row _ u.on g.run.answer g.due g.run.called g.run.told g.text g.line g.ticks (played_out o k t)

@@ -16,7 +16,7 @@ use Rattle.level.specs.Levels.{Asked, wake_event, block_event, begin_event, coll
 use Rattle.command.specs.declared.command.Command.{Command}
 use Rattle.command.specs.declared.command.Command.TheVariants.{Open, Wake, Block, Tick, Begin, End}
 use Rattle.rehearsal.specs.Calls.{TicksOf, all_run, one_run, stopped, leave_after, end_after, Makes, MakesAll, no_calls, then_calls}
-use Rattle.rehearsal.specs.Played.{Stage, AsksRule, CallOn, Through, no_more, call_then}
+use Rattle.rehearsal.specs.Stages.{Stage, AsksRule, CallOn, Through, no_more, call_then}
 use Rattle.rehearsal.specs.Whole.{held_distance, held_patience, held_step}
 use Rattle.rehearsal.proofs.SameRules.{SameRule, same_on, same_meaning, hold_once}
 

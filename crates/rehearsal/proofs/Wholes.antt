@@ -31,8 +31,8 @@ use Rattle.row.specs.Rows.{row_text}
 use Rattle.row.specs.Sinks.{rows_text, Handed, nothing, more}
 use Rattle.rehearsal.specs.declared.fault.RehearsalFault.{RehearsalFault}
 use Rattle.rehearsal.specs.Calls.{rows_of}
-use Rattle.rehearsal.specs.Played.{Stage, Through}
-use Rattle.rehearsal.specs.Rehearsals.{State, line_after, malformed_row, Onwards, PlaysOut}
+use Rattle.rehearsal.specs.Stages.{Stage, Through}
+use Rattle.rehearsal.specs.Onwards.{Standing, line_after, malformed_row, Onwards, PlaysOut}
 use Rattle.rehearsal.specs.Runs.{BrokenOff, Runs}
 use Rattle.rehearsal.specs.Whole.{held_distance, held_patience, held_step, Fresh, Start, PlayedFrom, ScriptRows, played, RowsSoFar, all_rows, under_way, sheet_refused, on_sheet, output_of, TellsScript, Tells}
 use Rattle.rehearsal.proofs.PlayedOut.{no_ticks}
@@ -46,11 +46,11 @@ line_number (c ∷ cs) tail k h =
     let next : next_line k ≡ k + 1 = omega arith in
     ap (λ n. line_after n cs) next ∙ (line_number cs tail (k + 1) (omega arith) ∙ omega arith)
 
-state_of : List ℕ → ℕ → ℕ → Stage (Hold Queue) → State (Hold Queue)
+state_of : List ℕ → ℕ → ℕ → Stage (Hold Queue) → Standing (Hold Queue)
 state_of text line ticks on = record { text = text; line = line; ticks = ticks; on = on }
 
 -- where a script starts
-pub starts_at : (s : State (Hold Queue)) (text : List ℕ) (on : Stage (Hold Queue)) → s.text ≡ text → s.line ≡ 2 → s.ticks ≡ 0 → s.on ≡ on
+pub starts_at : (s : Standing (Hold Queue)) (text : List ℕ) (on : Stage (Hold Queue)) → s.text ≡ text → s.line ≡ 2 → s.ticks ≡ 0 → s.on ≡ on
     → s ≡ record { text = text; line = 2; ticks = 0; on = on }
 unfolding state_of
 starts_at s text on t l k o =
@@ -99,10 +99,10 @@ module _ {owner : ℤ → Option ℕ} {cycle : ℕ} {script : List ℕ} (start :
         stands = h.2;
       }
 
-  pub tells_script : {S F : Type 0} (hands : S → List ℕ → Result (Unit {0}) F → S → Type 0) (s : State (Hold Queue)) → s ≡ record { text = start.text; line = 2; ticks = 0; on = start.first } →
-      (k : S) (r : Result (Unit {0}) F) (u : State (Hold Queue)) (k' : S) → Runs held_distance held_patience held_step hands s k r u k' → TellsScript hands owner cycle script k r k'
-  tells_script hands s e k (Ok x) u k' o = (o.rows, played start (played_from o.rows u.on (subst (λ (z : State (Hold Queue)). PlaysOut held_distance held_patience held_step z o.rows u.on) e o.plays)), o.handed)
-  tells_script hands s e k (Err f) u k' o = (o.rows, under_way start u (subst (λ (z : State (Hold Queue)). Onwards held_distance held_patience held_step z o.rows u) e o.onwards), o.broken)
+  pub tells_script : {S F : Type 0} (hands : S → List ℕ → Result (Unit {0}) F → S → Type 0) (s : Standing (Hold Queue)) → s ≡ record { text = start.text; line = 2; ticks = 0; on = start.first } →
+      (k : S) (r : Result (Unit {0}) F) (u : Standing (Hold Queue)) (k' : S) → Runs held_distance held_patience held_step hands s k r u k' → TellsScript hands owner cycle script k r k'
+  tells_script hands s e k (Ok x) u k' o = (o.rows, played start (played_from o.rows u.on (subst (λ (z : Standing (Hold Queue)). PlaysOut held_distance held_patience held_step z o.rows u.on) e o.plays)), o.handed)
+  tells_script hands s e k (Err f) u k' o = (o.rows, under_way start u (subst (λ (z : Standing (Hold Queue)). Onwards held_distance held_patience held_step z o.rows u) e o.onwards), o.broken)
 
 -- A row that is told alone.
 module _ {S F : Type 0} (hands : S → List ℕ → Result (Unit {0}) F → S → Type 0) (k : S) (row : Row) (k' : S) where

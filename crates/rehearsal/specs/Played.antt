@@ -1,61 +1,73 @@
--- Commands played on a level.
-use Rattle.std.specs.Prelude.{◌≡◌, ℕ, Bool, List, [], ◌∷◌, ◌++◌, ℤ, Some, None, Option, Result}
-use Rattle.spare.specs.Chosen.{CallOf}
-use Rattle.level.specs.declared.level.Level.{Level}
+-- Which calls of the level a command makes, and which row comes of their answers.
+use Rattle.std.specs.Prelude.{◌≡◌, ℕ, ℤ, Some, None, Ok, Err, Option, Result}
 use Rattle.level.specs.declared.refusal.Refusal.{Refusal}
 use Rattle.level.specs.declared.ticked.Ticked.{Ticked}
-use Rattle.level.specs.Meaning.{Meaning, Event, woke, blocked, began, ended, left, collected, told, ticked, refused}
-use Rattle.level.specs.Levels.{meaning, Called, Asked, tick_event}
-use Rattle.command.specs.declared.command.Command.{Command}
+use Rattle.level.specs.declared.ticket.Ticket.{Ticket}
+use Rattle.level.specs.Numbers.{number_of}
+use Rattle.level.specs.Meaning.{Meaning, ended, left}
+use Rattle.level.specs.Levels.{Called, wake_event, block_event, begin_event, collect_event, tick_event}
 use Rattle.row.specs.declared.row.Row.{Row}
-use Rattle.rehearsal.specs.Calls.{rows_of, call_rows, Makes}
+use Rattle.row.specs.declared.row.Row.TheVariants.{Ran, Began, Ended, BeginRefused, EndRefused, WakeRefused, BlockRefused, TickRefused}
 
--- a level by its meaning, with the spare rule itself
-pub record Stage (R : Type 0) : Type 0 where
-  pub level : Meaning
-  pub rule : R
+-- The rows of answers. A wake or a block that is accepted has none.
 
-abbrev pub stage : {T R : Type 0} → (T → ℤ → Option ℕ) → (T → ℕ) → (R → ℕ → ℕ) → (R → ℕ) → Level T R → Stage R
-stage owner cycle distance patience l = record { level = meaning owner cycle distance patience l; rule = l.rule }
+abbrev pub wake_row : ℕ → Result (Unit {0}) Refusal → Option Row
+wake_row a (Ok u) = None
+wake_row a (Err r) = Some (WakeRefused a (number_of r))
 
--- what a call does to the rule: at a spare tick it is asked once, told all that are ready, and at no other call
-abbrev pub AsksRule : {R : Type 0} → (R → (ℕ → Bool) → Option ℕ → R → Type 0) → (ℕ → Bool) → R → Event → R → Type 0
-AsksRule asks ready q (woke a) q' = q' ≡ q
-AsksRule asks ready q (blocked a) q' = q' ≡ q
-AsksRule asks ready q (began s a t e d x) q' = q' ≡ q
-AsksRule asks ready q (ended x ran) q' = q' ≡ q
-AsksRule asks ready q (left x) q' = q' ≡ q
-AsksRule asks ready q (collected s x) q' = q' ≡ q
-AsksRule asks ready q (told a n) q' = q' ≡ q
-AsksRule asks ready q (ticked e) q' = Asked asks ready q e.letter e.runner q'
-AsksRule asks ready q (refused c r) q' = q' ≡ q
+abbrev pub block_row : ℕ → Result (Unit {0}) Refusal → Option Row
+block_row a (Ok u) = None
+block_row a (Err r) = Some (BlockRefused a (number_of r))
 
--- one call, by the level's own contract, what it does to the rule, and that the level's rule is this one
-pub record CallOn {R : Type 0} (distance : R → ℕ → ℕ) (patience : R → ℕ) (step : R → (ℕ → Bool) → Option ℕ → R → Type 0) (p : Stage R) (e : Event) (p' : Stage R) : Type 0 where
-  pub called : Called p.level e p'.level
-  pub rule : AsksRule (CallOf distance patience step) p.level.ready p.rule e p'.rule
-  pub means : p'.level.rule ≡ record { distance = distance p'.rule; patience = patience p'.rule }
+abbrev pub tick_row : Result Ticked Refusal → Row
+tick_row (Ok e) = Ran e.tick e.runner e.letter
+tick_row (Err r) = TickRefused (number_of r)
 
--- one call after another
-pub data Through {R : Type 0} (distance : R → ℕ → ℕ) (patience : R → ℕ) (step : R → (ℕ → Bool) → Option ℕ → R → Type 0) : Stage R → List Event → Stage R → Type 0 where
-  no_more : {p : Stage R} → Through distance patience step p [] p
-  call_then : {p : Stage R} {e : Event} (p' : Stage R) {es : List Event} {p'' : Stage R} →
-      CallOn distance patience step p e p' → Through distance patience step p' es p'' → Through distance patience step p (e ∷ es) p''
+abbrev pub begin_row : ℕ → Result Ticket Refusal → Row
+begin_row s (Ok x) = Began s
+begin_row s (Err r) = BeginRefused s (number_of r)
 
--- a command is played: the calls that it says are made, and the rows are those of their answers
-pub record Plays {R : Type 0} (distance : R → ℕ → ℕ) (patience : R → ℕ) (step : R → (ℕ → Bool) → Option ℕ → R → Type 0) (p : Stage R) (c : Command) (rows : List Row) (p' : Stage R) : Type 0 where
-  pub calls : List Event
-  pub says : Makes c calls
-  pub through : Through distance patience step p calls p'
-  pub told : rows ≡ rows_of calls
+-- The calls of commands, each from the level m to the level n.
 
--- one tick is run, and the row is that of its answer
-pub record PlaysTick {R : Type 0} (distance : R → ℕ → ℕ) (patience : R → ℕ) (step : R → (ℕ → Bool) → Option ℕ → R → Type 0) (p : Stage R) (row : Row) (p' : Stage R) : Type 0 where
+-- a wake, and the row of its answer
+pub record Woken (m : Meaning) (a : ℕ) (row : Option Row) (n : Meaning) : Type 0 where
+  pub answer : Result (Unit {0}) Refusal
+  pub called : Called m (wake_event a answer) n
+  pub told : row ≡ wake_row a answer
+
+-- a block, likewise
+pub record Blocked (m : Meaning) (a : ℕ) (row : Option Row) (n : Meaning) : Type 0 where
+  pub answer : Result (Unit {0}) Refusal
+  pub called : Called m (block_event a answer) n
+  pub told : row ≡ block_row a answer
+
+-- one tick, likewise
+pub record Ticks (m : Meaning) (row : Row) (n : Meaning) : Type 0 where
   pub answer : Result Ticked Refusal
-  pub called : CallOn distance patience step p (tick_event answer) p'
-  pub told : row ∷ [] ≡ call_rows (tick_event answer)
+  pub called : Called m (tick_event answer) n
+  pub told : row ≡ tick_row answer
 
--- the rows of a command that may have none
-abbrev pub rows_in : Option Row → List Row
-rows_in None = []
-rows_in (Some row) = row ∷ []
+-- the ticket of a begin is left with the level; a refused begin has none
+abbrev pub Leaves : Meaning → Result Ticket Refusal → Meaning → Type 0
+Leaves k (Ok x) n = Called k (left x) n
+Leaves k (Err r) n = n ≡ k
+
+-- a begin, after which its ticket is left
+pub record Begun (m : Meaning) (s a : ℕ) (t d : ℤ) (e : ℕ) (row : Row) (n : Meaning) : Type 0 where
+  pub answer : Result Ticket Refusal
+  pub between : Meaning
+  pub called : Called m (begin_event s a t e d answer) between
+  pub leaves : Leaves between answer n
+  pub told : row ≡ begin_row s answer
+
+-- a ticket that was collected is ended with, and the row has the ticks that were run; where none could be collected the row is that refusal's
+abbrev pub Ends : ℕ → Meaning → Result Ticket Refusal → Row → Meaning → Type 0
+Ends s k (Ok x) row n = (ran : ℕ) × (Called k (ended x ran) n × (row ≡ Ended s ran))
+Ends s k (Err r) row n = (n ≡ k) × (row ≡ EndRefused s (number_of r))
+
+-- a collect, after which the constraint is ended
+pub record Finished (m : Meaning) (s : ℕ) (row : Row) (n : Meaning) : Type 0 where
+  pub answer : Result Ticket Refusal
+  pub between : Meaning
+  pub called : Called m (collect_event s answer) between
+  pub ends : Ends s between answer row n

@@ -1,32 +1,32 @@
 -- How a rehearsal goes on: one call of the level after another, as the script says them.
-use Rattle.std.specs.Prelude.{◌≡◌, ℕ, ◌-◌, ◌<◌, Bool, ◌⊎◌, List, [], ◌∷◌, ◌++◌, ℤ, Some, None, Option}
-use Rattle.level.specs.Meaning.{Event}
+use Rattle.std.specs.Prelude.{◌≡◌, ℕ, ◌-◌, ◌<◌, ◌⊎◌, List, [], ℤ, Some, None, Option}
+use Rattle.level.specs.Meaning.{Meaning}
+use Rattle.level.specs.Levels.{meaning}
 use Rattle.command.specs.declared.command.Command.{Command}
 use Rattle.command.specs.declared.command.Command.TheVariants.{Open, Wake, Block, Tick, Begin, End}
-use Rattle.command.specs.Grammar.{Begins}
-use Rattle.command.specs.Reading.{rest, next_line}
-use Rattle.command.specs.Scripts.{Opens, Says}
 use Rattle.row.specs.declared.row.Row.{Row}
 use Rattle.row.specs.declared.row.Row.TheVariants.{Ran, Began, Ended, BeginRefused, EndRefused, WakeRefused, BlockRefused, TickRefused, Malformed}
 use Rattle.rehearsal.specs.declared.rehearsal.Rehearsal.{Rehearsal}
 use Rattle.rehearsal.specs.declared.rehearsal.Progress.{Progress}
 use Rattle.rehearsal.specs.declared.rehearsal.Progress.TheVariants.{Told, Silent, Over}
-use Rattle.rehearsal.specs.Calls.{TicksOf, MakesAll, rows_of}
-use Rattle.rehearsal.specs.Played.{Stage, stage, Through, Plays, PlaysTick}
+use Rattle.command.specs.Grammar.{Begins}
+use Rattle.command.specs.Reading.{rest, next_line}
+use Rattle.command.specs.Scripts.{Opens}
+use Rattle.rehearsal.specs.Played.{Woken, Blocked, Ticks, Begun, Finished}
 
 -- where a rehearsal stands: the bytes still to be read, the number of the line there, the ticks still to be run of the line before, and the level
-pub record State (R : Type 0) : Type 0 where
+pub record State : Type 0 where
   pub text : List ℕ
   pub line : ℕ
   pub ticks : ℕ
-  pub on : Stage R
+  pub level : Meaning
 
-abbrev pub state : {T R : Type 0} → (T → ℤ → Option ℕ) → (T → ℕ) → (R → ℕ → ℕ) → (R → ℕ) → Rehearsal T R → State R
+abbrev pub state : {T R : Type 0} → (T → ℤ → Option ℕ) → (T → ℕ) → (R → ℕ → ℕ) → (R → ℕ) → Rehearsal T R → State
 state owner cycle distance patience s = record {
   text = rest s.reader;
   line = s.reader.line;
   ticks = s.ticks;
-  on = stage owner cycle distance patience s.level;
+  level = meaning owner cycle distance patience s.level;
 }
 
 -- a refused tick ends its line
@@ -41,105 +41,74 @@ ticks_after (BlockRefused a n) k = 0
 ticks_after (TickRefused n) k = 0
 ticks_after (Malformed n) k = 0
 
--- the row of what a call tells
-abbrev pub told_by : Progress → List Row
-told_by (Told row) = row ∷ []
-told_by Silent = []
-told_by Over = []
+-- one of the ticks of the line before is run
+pub record TickRun (s : State) (row : Row) (u : State) : Type 0 where
+  pub due : 0 < s.ticks
+  pub run : Ticks s.level row u.level
+  pub text : u.text ≡ s.text
+  pub line : u.line ≡ s.line
+  pub ticks : u.ticks ≡ ticks_after row s.ticks
 
--- the number of the line behind those of the commands
-abbrev pub line_after : ℕ → List Command → ℕ
-line_after k [] = k
-line_after k (c ∷ cs) = line_after (next_line k) cs
+abbrev pub OfRow : Option Row → (Row → Type 0) → Type 0
+OfRow None P = ⊥
+OfRow (Some row) P = P row
 
--- where something is left, line k is malformed
-abbrev pub malformed_row : List ℕ → ℕ → List Row
-malformed_row [] k = []
-malformed_row (b ∷ bs) k = Malformed k ∷ []
+-- what a command does to the level, which row it has, and how many ticks are to be run of its line; only the first line opens
+abbrev pub Plays : Meaning → Command → Option Row → Meaning → ℕ → Type 0
+Plays m (Open t r) row n k = ⊥
+Plays m (Wake a) row n k = Woken m a row n × (k ≡ 0)
+Plays m (Block a) row n k = Blocked m a row n × (k ≡ 0)
+Plays m (Tick j) row n k = (row ≡ None) × (n ≡ m) × (k ≡ j)
+Plays m (Begin s a t d e) row n k = OfRow row (λ w. Begun m s a t d e w n) × (k ≡ 0)
+Plays m (End s) row n k = OfRow row (λ w. Finished m s w n) × (k ≡ 0)
 
-module _ {R : Type 0} (distance : R → ℕ → ℕ) (patience : R → ℕ) (step : R → (ℕ → Bool) → Option ℕ → R → Type 0) where
-  -- one of the ticks of the line before is run
-  pub record TickRun (s : State R) (row : Row) (u : State R) : Type 0 where
-    pub due : 0 < s.ticks
-    pub run : PlaysTick distance patience step s.on row u.on
-    pub text : u.text ≡ s.text
-    pub line : u.line ≡ s.line
-    pub ticks : u.ticks ≡ ticks_after row s.ticks
+-- the next line says a command, and that is played
+pub record LinePlayed (s : State) (row : Option Row) (u : State) : Type 0 where
+  pub due : s.ticks ≡ 0
+  pub command : Command
+  pub says : Begins s.text command u.text
+  pub line : u.line ≡ next_line s.line
+  pub plays : Plays s.level command row u.level u.ticks
 
-  -- what a command does to the level, which rows it has, and how many ticks are to be run of its line; only the first line opens
-  abbrev pub Follows : Stage R → Command → List Row → Stage R → ℕ → Type 0
-  Follows p (Open t r) rows p' k = ⊥
-  Follows p (Wake a) rows p' k = Plays distance patience step p (Wake a) rows p' × (k ≡ 0)
-  Follows p (Block a) rows p' k = Plays distance patience step p (Block a) rows p' × (k ≡ 0)
-  Follows p (Tick n) rows p' k = (rows ≡ []) × (p' ≡ p) × (k ≡ n)
-  Follows p (Begin s a t d e) rows p' k = Plays distance patience step p (Begin s a t d e) rows p' × (k ≡ 0)
-  Follows p (End s) rows p' k = Plays distance patience step p (End s) rows p' × (k ≡ 0)
+-- there is a line, it says no command that may stand there, and nothing is read after it
+pub record LineRefused (s : State) (row : Row) (u : State) : Type 0 where
+  pub due : s.ticks ≡ 0
+  pub some : s.text ≡ [] → ⊥
+  pub says : (c : Command) (ys : List ℕ) → Begins s.text c ys → Opens c
+  pub told : row ≡ Malformed s.line
+  pub text : u.text ≡ []
+  pub ticks : u.ticks ≡ 0
+  pub level : u.level ≡ s.level
 
-  -- the next line says a command, and that is played
-  pub record LinePlayed (s : State R) (rows : List Row) (u : State R) : Type 0 where
-    pub due : s.ticks ≡ 0
-    pub command : Command
-    pub says : Begins s.text command u.text
-    pub line : u.line ≡ next_line s.line
-    pub follows : Follows s.on command rows u.on u.ticks
+-- Parts of a line.
 
-  -- there is a line, it says no command that may stand there, and nothing is read after it
-  pub record LineRefused (s : State R) (row : Row) (u : State R) : Type 0 where
-    pub due : s.ticks ≡ 0
-    pub some : s.text ≡ [] → ⊥
-    pub says : (c : Command) (ys : List ℕ) → Begins s.text c ys → Opens c
-    pub told : row ≡ Malformed s.line
-    pub text : u.text ≡ []
-    pub ticks : u.ticks ≡ 0
-    pub on : u.on ≡ s.on
+-- nothing is read after line k
+pub record Refused (s : State) (k : ℕ) (row : Row) (u : State) : Type 0 where
+  pub told : row ≡ Malformed k
+  pub text : u.text ≡ []
+  pub ticks : u.ticks ≡ 0
+  pub level : u.level ≡ s.level
 
-  -- Parts of a line.
+-- a command of line k is played, what follows the line being still to be read
+pub record Played (s : State) (c : Command) (row : Option Row) (u : State) : Type 0 where
+  pub plays : Plays s.level c row u.level u.ticks
+  pub text : u.text ≡ s.text
+  pub line : u.line ≡ s.line
 
-  -- nothing is read after line k
-  pub record Refused (s : State R) (k : ℕ) (rows : List Row) (u : State R) : Type 0 where
-    pub told : rows ≡ Malformed k ∷ []
-    pub text : u.text ≡ []
-    pub ticks : u.ticks ≡ 0
-    pub on : u.on ≡ s.on
+abbrev pub Follows : State → ℕ → Command → Option Row → State → Type 0
+Follows s k (Open t r) row u = OfRow row (λ w. Refused s k w u)
+Follows s k (Wake a) row u = Played s (Wake a) row u
+Follows s k (Block a) row u = Played s (Block a) row u
+Follows s k (Tick j) row u = Played s (Tick j) row u
+Follows s k (Begin x a t d e) row u = Played s (Begin x a t d e) row u
+Follows s k (End x) row u = Played s (End x) row u
 
-  -- a command is played, what follows its line being still to be read
-  pub record CommandPlayed (s : State R) (c : Command) (rows : List Row) (u : State R) : Type 0 where
-    pub follows : Follows s.on c rows u.on u.ticks
-    pub text : u.text ≡ s.text
-    pub line : u.line ≡ s.line
+abbrev pub NextLine : State → Option Row → State → Type 0
+NextLine s None u = LinePlayed s None u
+NextLine s (Some row) u = LinePlayed s (Some row) u ⊎ LineRefused s row u
 
-  abbrev pub LineGoes : State R → ℕ → Command → List Row → State R → Type 0
-  LineGoes s k (Open t r) rows u = Refused s k rows u
-  LineGoes s k (Wake a) rows u = CommandPlayed s (Wake a) rows u
-  LineGoes s k (Block a) rows u = CommandPlayed s (Block a) rows u
-  LineGoes s k (Tick n) rows u = CommandPlayed s (Tick n) rows u
-  LineGoes s k (Begin x a t d e) rows u = CommandPlayed s (Begin x a t d e) rows u
-  LineGoes s k (End x) rows u = CommandPlayed s (End x) rows u
-
-  abbrev pub NextLine : State R → Option Row → State R → Type 0
-  NextLine s None u = LinePlayed s [] u
-  NextLine s (Some row) u = LinePlayed s (row ∷ []) u ⊎ LineRefused s row u
-
-  -- how a rehearsal goes on from s to u
-  abbrev pub Goes : State R → Progress → State R → Type 0
-  Goes s (Told row) u = TickRun s row u ⊎ (LinePlayed s (row ∷ []) u ⊎ LineRefused s row u)
-  Goes s Silent u = LinePlayed s [] u
-  Goes s Over u = (s.ticks ≡ 0) × (s.text ≡ []) × (u ≡ s)
-
-  -- calls of a rehearsal, one after another, and the rows that they tell
-  pub data Onwards : State R → List Row → State R → Type 0 where
-    not_yet : {s : State R} → Onwards s [] s
-    on_by : {s : State R} (p : Progress) (u : State R) {rows : List Row} {v : State R} → Goes s p u → Onwards u rows v → Onwards s (told_by p ++ rows) v
-
-  -- All that is left is played: the ticks still to be run of the line before, and then the commands that the lines say, up to the end or to a
-  -- line that is malformed. Each call is the level's own, and the rows are those of the answers.
-  pub record PlaysOut (s : State R) (rows : List Row) (last : Stage R) : Type 0 where
-    pub due : List Event
-    pub ticks : TicksOf s.ticks due
-    pub commands : List Command
-    pub tail : List ℕ
-    pub says : Says s.text commands tail
-    pub calls : List Event
-    pub makes : MakesAll commands calls
-    pub through : Through distance patience step s.on (due ++ calls) last
-    pub told : rows ≡ rows_of (due ++ calls) ++ malformed_row tail (line_after s.line commands)
+-- how a rehearsal goes on from s to u
+abbrev pub Goes : State → Progress → State → Type 0
+Goes s (Told row) u = TickRun s row u ⊎ (LinePlayed s (Some row) u ⊎ LineRefused s row u)
+Goes s Silent u = LinePlayed s None u
+Goes s Over u = (s.ticks ≡ 0) × (s.text ≡ []) × (u ≡ s)

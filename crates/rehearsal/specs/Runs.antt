@@ -2,7 +2,7 @@
 use Rattle.std.specs.Prelude.{◌≡◌, ℕ, Bool, List, [], ◌++◌, Ok, Err, Option, Result}
 use Rattle.row.specs.declared.row.Row.{Row}
 use Rattle.row.specs.Sinks.{rows_text, Handed}
-use Rattle.rehearsal.specs.Rehearsals.{State, Onwards, PlaysOut}
+use Rattle.rehearsal.specs.Onwards.{Standing, Onwards, PlaysOut}
 
 -- a sink takes the front of a text, and refuses the next part of it
 pub record BrokenOff {S F : Type 0} (hands : S → List ℕ → Result (Unit {0}) F → S → Type 0) (s : S) (text : List ℕ) (f : F) (s' : S) : Type 0 where
@@ -16,7 +16,7 @@ pub record BrokenOff {S F : Type 0} (hands : S → List ℕ → Result (Unit {0}
 
 module _ {R S F : Type 0} (distance : R → ℕ → ℕ) (patience : R → ℕ) (step : R → (ℕ → Bool) → Option ℕ → R → Type 0) (hands : S → List ℕ → Result (Unit {0}) F → S → Type 0) where
   -- all is played, and the sink has taken the rows; it has taken nothing else
-  pub record RunOut (s : State R) (k : S) (u : State R) (k' : S) : Type 0 where
+  pub record RunOut (s : Standing R) (k : S) (u : Standing R) (k' : S) : Type 0 where
     pub rows : List Row
     pub plays : PlaysOut distance patience step s rows u.on
     pub text : u.text ≡ []
@@ -24,11 +24,11 @@ module _ {R S F : Type 0} (distance : R → ℕ → ℕ) (patience : R → ℕ) 
     pub handed : Handed hands k (rows_text rows) k'
 
   -- the sink has refused a part of the rows so far, and nothing was played after that
-  pub record RunBroken (s : State R) (k : S) (f : F) (u : State R) (k' : S) : Type 0 where
+  pub record RunBroken (s : Standing R) (k : S) (f : F) (u : Standing R) (k' : S) : Type 0 where
     pub rows : List Row
     pub onwards : Onwards distance patience step s rows u
     pub broken : BrokenOff hands k (rows_text rows) f k'
 
-  abbrev pub Runs : State R → S → Result (Unit {0}) F → State R → S → Type 0
+  abbrev pub Runs : Standing R → S → Result (Unit {0}) F → Standing R → S → Type 0
   Runs s k (Ok x) u k' = RunOut s k u k'
   Runs s k (Err f) u k' = RunBroken s k f u k'

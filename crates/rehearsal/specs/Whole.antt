@@ -27,8 +27,8 @@ use Rattle.row.specs.Sinks.{rows_text, Handed}
 use Rattle.rehearsal.specs.declared.fault.RehearsalFault.{RehearsalFault}
 use Rattle.rehearsal.specs.declared.fault.RehearsalFault.TheVariants.{Memory, Output}
 use Rattle.rehearsal.specs.Calls.{MakesAll, rows_of}
-use Rattle.rehearsal.specs.Played.{Stage, Through}
-use Rattle.rehearsal.specs.Rehearsals.{State, malformed_row, Onwards}
+use Rattle.rehearsal.specs.Stages.{Stage, Through}
+use Rattle.rehearsal.specs.Onwards.{Standing, malformed_row, Onwards}
 use Rattle.rehearsal.specs.Runs.{BrokenOff}
 
 -- The spare rule of a rehearsal, a queue under a hold.
@@ -94,7 +94,7 @@ pub data ScriptRows (owner : ℤ → Option ℕ) (cycle : ℕ) (script : List �
 -- the rows so far of a script that was not played to its end
 pub data RowsSoFar (owner : ℤ → Option ℕ) (cycle : ℕ) (script : List ℕ) : List Row → Type 0 where
   all_rows : {rows : List Row} → ScriptRows owner cycle script rows → RowsSoFar owner cycle script rows
-  under_way : {rows : List Row} (start : Start owner cycle script) (u : State (Hold Queue)) →
+  under_way : {rows : List Row} (start : Start owner cycle script) (u : Standing (Hold Queue)) →
       Onwards held_distance held_patience held_step (record { text = start.text; line = 2; ticks = 0; on = start.first }) rows u → RowsSoFar owner cycle script rows
 
 -- A script on a sheet.

@@ -1,6 +1,6 @@
 // A rehearsal is played to its end.
 ghost use Rattle.std.specs.Prelude.{ℕ};
-ghost use Rattle.rehearsal.specs.Rehearsals.{state};
+ghost use Rattle.rehearsal.specs.Onwards.{standing};
 ghost use Rattle.rehearsal.specs.Runs.{Runs};
 
 use crate::rehearsal::{Progress, Rehearsal};
@@ -12,7 +12,7 @@ use timetable::table::Timetable;
 impl<T: Timetable, R: SpareRule> Rehearsal<'_, T, R> {
     /// Plays all that is left, and hands the rows to the sink. Where the sink refuses, nothing more is played.
     pub fn run<S: Sink>(&mut self, sink: &mut S) -> Result<(), S::Fault>
-        ensures { Runs R.SpareRule.distance R.SpareRule.patience R.SpareRule.step S.Sink.hands (state T.Timetable.owner T.Timetable.cycle R.SpareRule.distance R.SpareRule.patience self.old) sink.old result (state T.Timetable.owner T.Timetable.cycle R.SpareRule.distance R.SpareRule.patience self.new) sink.new }
+        ensures { Runs R.SpareRule.distance R.SpareRule.patience R.SpareRule.step S.Sink.hands (standing T.Timetable.owner T.Timetable.cycle R.SpareRule.distance R.SpareRule.patience self.old) sink.old result (standing T.Timetable.owner T.Timetable.cycle R.SpareRule.distance R.SpareRule.patience self.new) sink.new }
     {
         let mut rows = RowBuffer::new();
         loop {

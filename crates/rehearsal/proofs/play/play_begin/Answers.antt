@@ -5,16 +5,16 @@ use Rattle.rehearsal.proofs.Playing.{one_call, two_calls}
 use Rattle.rehearsal.proofs.Tickets.{left_sound}
 use Rattle.rehearsal.proofs.play.play_begin.Goals as goal
 
-pub returns-in-Ok-leave : goal.returns-in-Ok-leave
-returns-in-Ok-leave g c =
+pub returns-in-Ok-leave-clause-plays : goal.returns-in-Ok-leave-clause-plays
+returns-in-Ok-leave-clause-plays g c =
     let fs = c.ranges.start in
     let fd = c.ranges.deadline in
     let b = simp to_z-of_z at c.in-Ok.ensures in
     let l = c.in-Ok-leave.ensures.called in
     two_calls (Ok c.in-Ok.ticket, refl) (record { called = b.called; rule = b.rule; means = refl }) (record { called = l.called; rule = l.rule; means = refl }) refl
 
-pub returns-in-Err : goal.returns-in-Err
-returns-in-Err g c =
+pub returns-in-Err-clause-plays : goal.returns-in-Err-clause-plays
+returns-in-Err-clause-plays g c =
     let fs = c.ranges.start in
     let fd = c.ranges.deadline in
     let e = simp to_z-of_z at c.in-Err.ensures in

@@ -5,15 +5,15 @@ use Rattle.rehearsal.proofs.Playing.{one_call, two_calls}
 use Rattle.rehearsal.proofs.Tickets.{end_sound}
 use Rattle.rehearsal.proofs.play.play_end.Goals as goal
 
-pub returns-in-Ok-end : goal.returns-in-Ok-end
-returns-in-Ok-end g c =
+pub returns-in-Ok-end-clause-plays : goal.returns-in-Ok-end-clause-plays
+returns-in-Ok-end-clause-plays g c =
     let b = c.in-Ok.ensures in
     let l = c.in-Ok-end.ensures.called in
     two_calls (Ok c.in-Ok.ticket, c.in-Ok-end.taken, refl) (record { called = b.called; rule = b.rule; means = refl }) (record { called = l.called; rule = l.rule; means = refl })
     (ap (λ (x : Ticket). Ended x.seat c.in-Ok-end.taken ∷ []) (sym b.called.step.2))
 
-pub returns-in-Err : goal.returns-in-Err
-returns-in-Err g c =
+pub returns-in-Err-clause-plays : goal.returns-in-Err-clause-plays
+returns-in-Err-clause-plays g c =
     let e = c.in-Err.ensures in
     one_call (Err c.in-Err.refusal, 0, refl) (record { called = e.called; rule = e.rule; means = refl })
     (ap (λ n. EndRefused c.args.seat n ∷ []) c.number.ensures)

@@ -4,8 +4,8 @@ use Rattle.command.specs.Grammar.{fault_line}
 use Rattle.command.specs.Reading.{rest}
 use Rattle.row.specs.declared.row.Row.TheVariants.{Malformed}
 use Rattle.row.specs.Rows.{row_text}
-use Rattle.rehearsal.specs.Played.{stage}
-use Rattle.rehearsal.specs.Rehearsals.{state}
+use Rattle.rehearsal.specs.Stages.{stage}
+use Rattle.rehearsal.specs.Onwards.{standing}
 use Rattle.rehearsal.specs.Whole.{held_distance, held_patience, Start, unopened}
 use Rattle.rehearsal.proofs.OnlyRows.{script_rows_once}
 use Rattle.rehearsal.proofs.Wholes.{tells_script, tells_alone, starts_at, opened_with, fresh_with}
@@ -30,11 +30,11 @@ returns-in-Ok g c =
       fresh = fresh_with c.open-level.result.rule c.new-rule.result c.new.result c.in-Ok.opening.repeats o.rule
           c.new-rule.ensures.below c.new.ensures c.new-rule.ensures.repeats c.new-rule.ensures.choice c.new-rule.ensures.left;
     } in
-    let here = starts_at (state owner cycle held_distance held_patience c.new-rehearsal.result) (rest c.in-Ok.opening.reader) (stage owner cycle held_distance held_patience c.open-level.result)
+    let here = starts_at (standing owner cycle held_distance held_patience c.new-rehearsal.result) (rest c.in-Ok.opening.reader) (stage owner cycle held_distance held_patience c.open-level.result)
     n.reader (n.line ∙ f.line) n.ticks (ap (stage owner cycle held_distance held_patience) n.level) in
     record {
-      told = tells_script start g.S.Sink.hands (state owner cycle held_distance held_patience c.new-rehearsal.result) here c.args.sink.now c.run.result
-          (state owner cycle held_distance held_patience c.run.new.self) c.run.new.sink c.run.ensures;
+      told = tells_script start g.S.Sink.hands (standing owner cycle held_distance held_patience c.new-rehearsal.result) here c.args.sink.now c.run.result
+          (standing owner cycle held_distance held_patience c.run.new.self) c.run.new.sink c.run.ensures;
       once = script_rows_once;
     }
 

@@ -11,4 +11,5 @@ pub returns-then-at_end : goal.returns-then-at_end
 returns-then-at_end g c =
     let e = c.if-at_end.ensures in
     let size : length (rest c.args.self.now.reader) ≡ 0 = grind (arith, nat_tests) in
-    (omega arith, none (rest c.args.self.now.reader) size, refl)
+    let none_left = none (rest c.args.self.now.reader) size in
+    record { goes = (omega arith, none_left, refl); runs = (omega arith, none_left, refl) }

@@ -1,14 +1,16 @@
 use Rattle.std.proofs.Common.{◌≡◌, refl, ap}
-use Rattle.rehearsal.specs.Played.{stage}
+use Rattle.level.specs.Levels.{meaning}
+use Rattle.rehearsal.specs.Onwards.{standing}
 use Rattle.rehearsal.specs.Rehearsals.{state}
+use Rattle.rehearsal.specs.Stages.{stage}
 use Rattle.rehearsal.proofs.Going.{line_goes}
+use Rattle.rehearsal.proofs.GoingOn.{line_goes_on}
 use Rattle.rehearsal.proofs.rehearsal.Rehearsal.play_line.Goals as goal
 
-pub returns-in-Ok : goal.returns-in-Ok
-returns-in-Ok g c =
+pub returns-in-Ok-clause-goes : goal.returns-in-Ok-clause-goes
+returns-in-Ok-clause-goes g c =
     let e = c.in-Ok.ensures in
     line_goes
-    g.R.SpareRule.distance g.R.SpareRule.patience g.R.SpareRule.step
     (state g.T.Timetable.owner g.T.Timetable.cycle g.R.SpareRule.distance g.R.SpareRule.patience c.args.self.now)
     (state g.T.Timetable.owner g.T.Timetable.cycle g.R.SpareRule.distance g.R.SpareRule.patience c.read_line.new.self)
     (state g.T.Timetable.owner g.T.Timetable.cycle g.R.SpareRule.distance g.R.SpareRule.patience c.play.new.self)
@@ -19,6 +21,25 @@ returns-in-Ok g c =
       number = e.reads.0;
       says = e.reads.1;
       line = e.line refl;
+      level = ap (meaning g.T.Timetable.owner g.T.Timetable.cycle g.R.SpareRule.distance g.R.SpareRule.patience) e.level;
+    })
+    e.once c.play.ensures.goes
+
+pub returns-in-Ok-clause-runs : goal.returns-in-Ok-clause-runs
+returns-in-Ok-clause-runs g c =
+    let e = c.in-Ok.ensures in
+    line_goes_on
+    g.R.SpareRule.distance g.R.SpareRule.patience g.R.SpareRule.step
+    (standing g.T.Timetable.owner g.T.Timetable.cycle g.R.SpareRule.distance g.R.SpareRule.patience c.args.self.now)
+    (standing g.T.Timetable.owner g.T.Timetable.cycle g.R.SpareRule.distance g.R.SpareRule.patience c.read_line.new.self)
+    (standing g.T.Timetable.owner g.T.Timetable.cycle g.R.SpareRule.distance g.R.SpareRule.patience c.play.new.self)
+    c.in-Ok.line c.in-Ok.command c.play.result
+    (record {
+      due = c.requires.0;
+      some = c.requires.1;
+      number = e.reads.0;
+      says = e.reads.1;
+      line = e.line refl;
       on = ap (stage g.T.Timetable.owner g.T.Timetable.cycle g.R.SpareRule.distance g.R.SpareRule.patience) e.level;
     })
-    e.once c.play.ensures
+    e.once c.play.ensures.runs

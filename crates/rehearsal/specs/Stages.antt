@@ -1,0 +1,61 @@
+-- Commands played on a level, the spare rule itself followed beside it.
+use Rattle.std.specs.Prelude.{◌≡◌, ℕ, Bool, List, [], ◌∷◌, ◌++◌, ℤ, Some, None, Option, Result}
+use Rattle.spare.specs.Chosen.{CallOf}
+use Rattle.level.specs.declared.level.Level.{Level}
+use Rattle.level.specs.declared.refusal.Refusal.{Refusal}
+use Rattle.level.specs.declared.ticked.Ticked.{Ticked}
+use Rattle.level.specs.Meaning.{Meaning, Event, woke, blocked, began, ended, left, collected, told, ticked, refused}
+use Rattle.level.specs.Levels.{meaning, Called, Asked, tick_event}
+use Rattle.command.specs.declared.command.Command.{Command}
+use Rattle.row.specs.declared.row.Row.{Row}
+use Rattle.rehearsal.specs.Calls.{rows_of, call_rows, Makes}
+
+-- a level by its meaning, with the spare rule itself
+pub record Stage (R : Type 0) : Type 0 where
+  pub level : Meaning
+  pub rule : R
+
+abbrev pub stage : {T R : Type 0} → (T → ℤ → Option ℕ) → (T → ℕ) → (R → ℕ → ℕ) → (R → ℕ) → Level T R → Stage R
+stage owner cycle distance patience l = record { level = meaning owner cycle distance patience l; rule = l.rule }
+
+-- what a call does to the rule: at a spare tick it is asked once, told all that are ready, and at no other call
+abbrev pub AsksRule : {R : Type 0} → (R → (ℕ → Bool) → Option ℕ → R → Type 0) → (ℕ → Bool) → R → Event → R → Type 0
+AsksRule asks ready q (woke a) q' = q' ≡ q
+AsksRule asks ready q (blocked a) q' = q' ≡ q
+AsksRule asks ready q (began s a t e d x) q' = q' ≡ q
+AsksRule asks ready q (ended x ran) q' = q' ≡ q
+AsksRule asks ready q (left x) q' = q' ≡ q
+AsksRule asks ready q (collected s x) q' = q' ≡ q
+AsksRule asks ready q (told a n) q' = q' ≡ q
+AsksRule asks ready q (ticked e) q' = Asked asks ready q e.letter e.runner q'
+AsksRule asks ready q (refused c r) q' = q' ≡ q
+
+-- one call, by the level's own contract, what it does to the rule, and that the level's rule is this one
+pub record CallOn {R : Type 0} (distance : R → ℕ → ℕ) (patience : R → ℕ) (step : R → (ℕ → Bool) → Option ℕ → R → Type 0) (p : Stage R) (e : Event) (p' : Stage R) : Type 0 where
+  pub called : Called p.level e p'.level
+  pub rule : AsksRule (CallOf distance patience step) p.level.ready p.rule e p'.rule
+  pub means : p'.level.rule ≡ record { distance = distance p'.rule; patience = patience p'.rule }
+
+-- one call after another
+pub data Through {R : Type 0} (distance : R → ℕ → ℕ) (patience : R → ℕ) (step : R → (ℕ → Bool) → Option ℕ → R → Type 0) : Stage R → List Event → Stage R → Type 0 where
+  no_more : {p : Stage R} → Through distance patience step p [] p
+  call_then : {p : Stage R} {e : Event} (p' : Stage R) {es : List Event} {p'' : Stage R} →
+      CallOn distance patience step p e p' → Through distance patience step p' es p'' → Through distance patience step p (e ∷ es) p''
+
+-- a command is played: the calls that it says are made, and the rows are those of their answers
+pub record PlaysCommand {R : Type 0} (distance : R → ℕ → ℕ) (patience : R → ℕ) (step : R → (ℕ → Bool) → Option ℕ → R → Type 0) (p : Stage R) (c : Command) (rows : List Row) (p' : Stage R) : Type 0 where
+  pub calls : List Event
+  pub says : Makes c calls
+  pub through : Through distance patience step p calls p'
+  pub told : rows ≡ rows_of calls
+
+-- one tick is run, and the row is that of its answer
+pub record PlaysTick {R : Type 0} (distance : R → ℕ → ℕ) (patience : R → ℕ) (step : R → (ℕ → Bool) → Option ℕ → R → Type 0) (p : Stage R) (row : Row) (p' : Stage R) : Type 0 where
+  pub answer : Result Ticked Refusal
+  pub called : CallOn distance patience step p (tick_event answer) p'
+  pub told : row ∷ [] ≡ call_rows (tick_event answer)
+
+-- the rows of a command that may have none
+abbrev pub rows_in : Option Row → List Row
+rows_in None = []
+rows_in (Some row) = row ∷ []
