@@ -2,7 +2,7 @@
 use Rattle.std.proofs.Common.{◌≡◌, ℕ, zero, suc, ◌*◌, ◌^◌, ◌<◌, ◌≤◌, Bool, true, ◌&&◌, leb, ℤ, pos, None, Ok, Err, Option, sym, refl, arith, rules}
 use Rattle.std.proofs.lemmas.Bool.{leb-true, le-leb}
 use Rattle.std.proofs.lemmas.Bool.Decides.{Decides-below_and}
-use Rattle.std.specs.List.{AllByRecursion as All}
+use Rattle.std.specs.List.{AllByRecursion}
 use Rattle.plan.specs.Entries.{InRange as EntryInRange}
 use Rattle.plan.specs.Owners.{owner_in}
 use Rattle.plan.specs.Laws.{owner_again}
@@ -37,7 +37,7 @@ sound x y q r s =
 short : (owner : ℤ → Option ℕ) (cycle x y t n : ℕ) → FirstShort owner cycle (at (one x y) 0) t n → FirstUnserved owner cycle (one x y) 0 t n
 short owner cycle x y t n w = record { within = omega arith; before = λ k h. absurd (omega arith); window = w }
 
-in_range : All (EntryInRange example_base example_depth) example_entries
+in_range : AllByRecursion (EntryInRange example_base example_depth) example_entries
 in_range = search rules
 
 pub four_in_twenty : Holds (checked example_base example_depth example_entries (one 4 20) (Ok tt))

@@ -4,7 +4,7 @@
 #![tactic(auto)]
 
 ghost use Rattle.std.specs.Prelude.{◌≡◌, length, IfOk, None};
-ghost use Rattle.std.specs.List.{AllByRecursion as All};
+ghost use Rattle.std.specs.List.{AllByRecursion};
 ghost use Rattle.plan.specs.Told.{refusal};
 ghost use Rattle.cases.specs.Examples.{example_base, example_depth, example_entries, Holds, examples};
 
@@ -86,7 +86,7 @@ fn example_count() -> usize
 /// How many worked examples there are. That each of them holds is the theorem on its contract.
 pub fn worked_examples() -> usize
     ensures count { result ≡ length examples }
-    ensures hold { All Holds examples }
+    ensures hold { AllByRecursion Holds examples }
 {
     example_count()
 }

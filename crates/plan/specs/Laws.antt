@@ -5,7 +5,7 @@ use Rattle.std.proofs.lemmas.Nat.{pow_pos, pow-add, mul-le}
 use Rattle.std.proofs.ByRecursion.{All-from_get_or}
 use Rattle.std.proofs.lemmas.List.{at_drop_more, at_drop_all}
 use Rattle.std.proofs.lemmas.Int.{ints}
-use Rattle.std.specs.List.{AllByRecursion as All}
+use Rattle.std.specs.List.{AllByRecursion}
 use Rattle.clock.proofs.Laws.{floor_mod_more, floor_div_more, floor_mod-mod, lies_once}
 use Rattle.clock.specs.Floor.{floor_div, floor_mod, Lies}
 use Rattle.timetable.specs.Owners.{Known}
@@ -20,7 +20,7 @@ cycle_least b d h = omega (arith, mul-le 1 1 b (2 ^ d) h (pow_pos d))
 pub cycle_most : (b d : ℕ) → b ≤ 64 → d ≤ 5 → b * 2 ^ d ≤ 2048
 cycle_most b d h k = omega (arith, mul-le b (2 ^ d) 64 (2 ^ 5) h (pow_mono k))
 
-pub all_ranged : (b d : ℕ) (es : List Entry) → Ranged b d es (length es) → All (InRange b d) es
+pub all_ranged : (b d : ℕ) (es : List Entry) → Ranged b d es (length es) → AllByRecursion (InRange b d) es
 all_ranged b d es h = All-from_get_or (InRange b d) es blank h
 
 -- 2 to the depth of a plan, by 2 to the depth of an entry
@@ -43,7 +43,7 @@ frame_again t b d k h l =
 offset_again : (t : ℤ) (b d : ℕ) → 0 < b → floor_mod (t +ℤ pos (b * 2 ^ d)) b ≡ floor_mod t b
 offset_again t b d h = ap (λ x. floor_mod (t +ℤ pos x) b) (mul_comm b (2 ^ d)) ∙ floor_mod_more t (2 ^ d) b h
 
-pub owner_again : (t : ℤ) (b d : ℕ) → 0 < b → (es : List Entry) → All (InRange b d) es → owner_in b es (t +ℤ pos (b * 2 ^ d)) ≡ owner_in b es t
+pub owner_again : (t : ℤ) (b d : ℕ) → 0 < b → (es : List Entry) → AllByRecursion (InRange b d) es → owner_in b es (t +ℤ pos (b * 2 ^ d)) ≡ owner_in b es t
 owner_again t b d h [] w = refl
 owner_again t b d h (e ∷ es) w =
     let f = frame_again t b d e.depth h w.0.1 in
@@ -55,7 +55,7 @@ chosen_known : (x : Bool) (a : ℕ) (o : Option ℕ) → a ≤ 15 → Known o �
 chosen_known true a o h k = omega arith
 chosen_known false a o h k = k
 
-pub owner_known : (b d : ℕ) (t : ℤ) (es : List Entry) → All (InRange b d) es → Known (owner_in b es t)
+pub owner_known : (b d : ℕ) (t : ℤ) (es : List Entry) → AllByRecursion (InRange b d) es → Known (owner_in b es t)
 owner_known b d t [] w = tt
 owner_known b d t (e ∷ es) w = chosen_known (owns b e t) e.activity (owner_in b es t) w.0.0 (owner_known b d t es w.1)
 

@@ -6,7 +6,7 @@ use Rattle.std.proofs.ByRecursion.{All-from_get_or, All-weaker}
 use Rattle.std.proofs.lemmas.List.{take_all}
 use Rattle.std.proofs.lemmas.List.Sums.{sum_by-cons, sum_by_more}
 use Rattle.std.proofs.lemmas.Bool.{eqb-true, cases_Bool, cond-true, cond-false}
-use Rattle.std.specs.List.{AllByRecursion as All}
+use Rattle.std.specs.List.{AllByRecursion}
 use Rattle.reservation.specs.declared.reservation.Reservation.{Reservation}
 use Rattle.reservation.specs.Reservations.{InRange, IsServed, New, Distinct, AllServed, share, at, blank}
 use Rattle.reservation.specs.Told.{Sound}
@@ -32,7 +32,7 @@ sum_by-zero [] = refl
 sum_by-zero (x ∷ xs) = let h = sum_by-zero xs in let a = sum_by-cons (λ x. 0) x xs in omega arith
 
 -- one inequality for each element, summed
-sum_by_scaled : {X : Type 0} (f g : X → ℕ) (n m : ℕ) (xs : List X) → All (λ x. f x * n ≤ m * g x) xs → sum_by f xs * n ≤ m * sum_by g xs
+sum_by_scaled : {X : Type 0} (f g : X → ℕ) (n m : ℕ) (xs : List X) → AllByRecursion (λ x. f x * n ≤ m * g x) xs → sum_by f xs * n ≤ m * sum_by g xs
 sum_by_scaled f g n m [] h = omega (arith, zero-mul n)
 sum_by_scaled f g n m (x ∷ xs) h =
     let r = sum_by_scaled f g n m xs h.1 in
@@ -56,9 +56,9 @@ often owner a x y h (suc k) t =
 record Common (rs : List Reservation) : Type 0 where
   len : ℕ
   some : 0 < len
-  times : All (λ r. (k : ℕ) × (len ≡ k * r.period)) rs
+  times : AllByRecursion (λ r. (k : ℕ) × (len ≡ k * r.period)) rs
 
-common : (rs : List Reservation) → All InRange rs → Common rs
+common : (rs : List Reservation) → AllByRecursion InRange rs → Common rs
 common [] h = record { len = 1; some = omega arith; times = tt }
 common (r ∷ rs) h =
     let c = common rs h.1 in
@@ -144,7 +144,7 @@ has_share owner n r (k, e) h =
     let c : k * (1000000 * r.ticks) ≡ 1000000 * (k * r.ticks) = mul_left_comm k 1000000 r.ticks in
     omega arith
 
-have_shares : (owner : ℤ → Option ℕ) (n : ℕ) (rs : List Reservation) → All (λ r. (k : ℕ) × (n ≡ k * r.period)) rs → All (IsServed owner) rs → All (λ r. share r * n ≤ 1000000 * in_window owner (pos 0) n r) rs
+have_shares : (owner : ℤ → Option ℕ) (n : ℕ) (rs : List Reservation) → AllByRecursion (λ r. (k : ℕ) × (n ≡ k * r.period)) rs → AllByRecursion (IsServed owner) rs → AllByRecursion (λ r. share r * n ≤ 1000000 * in_window owner (pos 0) n r) rs
 have_shares owner n [] a b = tt
 have_shares owner n (r ∷ rs) a b = (has_share owner n r a.0 b.0, have_shares owner n rs a.1 b.1)
 

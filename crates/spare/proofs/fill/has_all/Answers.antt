@@ -9,12 +9,14 @@ pub returns-then-not-contains : goal.returns-then-not-contains
 returns-then-not-contains c =
     let a = c.loop-activity.activity-counter in
     let xs = c.args.places.now in
-    let h = c.if-not-contains.ensures.cases in
-    ((λ e. absurd (both_ways _ refl e)), λ all.
-        let l = has_place a xs (all a c.loop-activity-test.true) in
-        let differs = h (place_of a xs) 0 (omega arith) l in
-        let stands = at_place a xs l in
-        grind (arith, nat_tests))
+    let h = c.if-not-contains.ensures.cases in (
+      (λ e. absurd (both_ways _ refl e)),
+      λ all.
+          let l = has_place a xs (all a c.loop-activity-test.true) in
+          let differs = h (place_of a xs) 0 (omega arith) l in
+          let stands = at_place a xs l in
+          grind (arith, nat_tests),
+    )
 
 pub loop-activity-preserved : goal.loop-activity-preserved
 loop-activity-preserved c =
