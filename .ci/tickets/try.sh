@@ -6,11 +6,7 @@ set -eu
 cd "$(dirname "$0")/../.."
 work=$(mktemp -d)
 trap 'rm -rf "$work"' EXIT
-cp -r crates crates.txt "$work"
-mkdir "$work/target"
-for part in rlib stamp log; do
-    cp -r "target/$part" "$work/target"
-done
+tar -cf - --exclude='crates/*/out' crates crates.txt | tar -xf - -C "$work"
 for edit in .ci/tickets/*.edit; do
     file=crates/scripts/$(sed -n 's/^file: //p' "$edit")
     awk -v old="$(sed -n 's/^old: //p' "$edit")" -v new="$(sed -n 's/^new: //p' "$edit")" '
@@ -20,7 +16,8 @@ for edit in .ci/tickets/*.edit; do
         exit 1
     fi
     words=$(sed -n 's/^says: //p' "$edit")
-    if (cd "$work" && rt check scripts) > "$work/said" 2>&1 || ! grep -q "$words" "$work/said"; then
+    if (cd "$work/crates/scripts" && rt check) > "$work/said" 2>&1 || ! grep -q "$words" "$work/said"; then
+        cat "$work/said"
         echo "$edit was not refused for: $words"
         exit 1
     fi

@@ -6,9 +6,13 @@ ghost use Rattle.std.specs.Prelude.{◌≤◌, length, IfOk};
 
 use anyhow::anyhow;
 use command::opening::MOST_BYTES;
+use plan::plan::Plan;
 use rehearsal::fault::RehearsalFault;
 use rehearsal::whole::rehearse;
+use reservation::reservation::Reservation;
 use row::sink::Sink;
+use sheet::load::load;
+use std::alloc::Global;
 use std::io::{Read, Write};
 use std::{fs, io};
 
@@ -44,11 +48,26 @@ fn read_input(rt: &HostRuntime, buf: &mut [u8]) -> io::Result<usize>
     Ok(have)
 }
 
-// One byte more than a script may have is enough to tell that it is too long.
+// Whether there is a plan in the sheet to play on.
+fn has_plan(heap: Global, sheet: &[u8]) -> bool {
+    let mut plan = Plan::empty(heap);
+    let mut list = [Reservation {
+        activity: 0,
+        ticks: 0,
+        period: 0,
+    }; 16];
+    load(sheet, &mut plan, &mut list).is_ok()
+}
+
+// One byte more than a script may have is enough to tell that it is too long. With no plan nobody waits for a script.
 fn run(rt: &HostRuntime) -> anyhow::Result<()> {
     let sheet = fs::read(rt, "plan.bin")?;
     let mut script = [0u8; MOST_BYTES + 1];
-    let size = read_input(rt, &mut script)?;
+    let size = if has_plan(rt.alloc(), sheet.as_slice()) {
+        read_input(rt, &mut script)?
+    } else {
+        0
+    };
     let mut output = Output { rt };
     match rehearse(rt.alloc(), sheet.as_slice(), &script[0..size], &mut output) {
         Ok(()) => Ok(()),
