@@ -15,7 +15,8 @@ compare() {
     "$work/second" verdicts "$work/$1" > "$work/$1.second"
     for sheet in "$work/$1"/*; do
         cd "$sheet"
-        "$inspect" | head -n 1 > verdict
+        "$inspect" > said || true
+        head -n 1 said > verdict
         printf '%s %s\n' "${sheet##*/}" "$(cat verdict)"
     done > "$work/$1.inspect"
     if ! cmp -s "$work/$1.second" "$work/$1.inspect"; then

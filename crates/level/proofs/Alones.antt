@@ -1,19 +1,19 @@
 -- What the history of a level says of the level, and what holds of its marks.
-use Rattle.std.proofs.Common.{◌≡◌, ℕ, zero, suc, ◌+◌, ◌<◌, ◌≤◌, Bool, true, false, cond, ◌&&◌, eqb, ◌⊎◌, List, [], ◌∷◌, ◌++◌, ℤ, pos, ◌+ℤ◌, ◌≤ℤ◌, ◌<ℤ◌, Some, None, Option, sym, refl, ap, ◌∙◌, subst, inl, inr, ⊎_elim, arith}
+use Rattle.std.proofs.Common.{◌≡◌, ℕ, ◌+◌, ◌<◌, ◌≤◌, true, false, ◌&&◌, eqb, ◌⊎◌, List, [], ◌∷◌, ◌++◌, ℤ, pos, ◌+ℤ◌, ◌≤ℤ◌, ◌<ℤ◌, Some, None, Option, sym, refl, ap, ◌∙◌, subst, inl, inr, ⊎_elim, arith}
 use Rattle.std.proofs.lemmas.Int.{ints, by_lt_z}
 use Rattle.std.proofs.lemmas.Bool.{eqb-true, eqb-false, eq-eqb, ne_eqb, cases_eq, both_ways, cond-true, cond-false, cases_Bool, and_parts, and_from, and_left}
 use Rattle.level.specs.declared.ticked.Letter.{Letter}
 use Rattle.level.specs.declared.ticked.Letter.TheVariants.{Constrained, Reserved, Spare, Idle}
 use Rattle.level.specs.declared.ticked.Ticked.{Ticked}
 use Rattle.level.specs.declared.ticket.Ticket.{Ticket}
-use Rattle.level.specs.declared.refusal.Refusal.TheVariants.{ClockAtEnd, UnknownActivity, ZeroEstimate, EarlyStart, BadDeadline, SeatUnavailable, TooFew, InvalidTicket, NoTicketLeft}
+use Rattle.level.specs.declared.refusal.Refusal.TheVariants.{UnknownActivity, EarlyStart, BadDeadline, SeatUnavailable}
 use Rattle.level.specs.Ticks.{one, is, is_none as none, allows as lets}
-use Rattle.level.specs.Meaning.{Constraint, Rule, Meaning, Call, to_begin, Event, woke, blocked, began, ended, left, collected, told, ticked, refused}
-use Rattle.level.specs.Refusals.{Sound, Wrong, early, in_use, begin_whom, backward, available}
-use Rattle.level.specs.Steps.{Step, Kept, By, Began, Ended, Handed, Reseated}
-use Rattle.level.specs.Together.{Opening, Entry, opened, called, Repeating, Opens, Alone, first, next}
+use Rattle.level.specs.Meaning.{Constraint, Meaning, to_begin, Event, woke, blocked, began, ended, left, collected, told, ticked, refused}
+use Rattle.level.specs.Refusals.{Sound, early, in_use, begin_whom, backward}
+use Rattle.level.specs.Steps.{Step, Kept, By, Reseated}
+use Rattle.level.specs.Together.{Entry, Repeating, Alone, first, next}
 use Rattle.level.specs.Promises.{ready_after, ready_in, run, ran, by, is_for, constrained, passes, count, over, clock_after, clock_in, owner_in, rule_in}
-use Rattle.level.proofs.Counts.{is_some, some_is, not_some, some_or_not, none_some}
+use Rattle.level.proofs.Counts.{some_or_not, none_some}
 
 pub same_kept : (m n : Meaning) → n ≡ m → Kept m n
 same_kept m n e = record { number = ap (λ x. x.number) e; owner = ap (λ x. x.owner) e; cycle = ap (λ x. x.cycle) e; patience = ap (λ x. x.rule.patience) e }

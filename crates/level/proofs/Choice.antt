@@ -1,14 +1,13 @@
 -- The marking pass chooses the ticks that a constraint is to have.
-use Rattle.std.proofs.Common.{◌≡◌, ℕ, zero, suc, ◌+◌, ◌-◌, ◌<◌, ◌≤◌, Bool, true, false, cond, not, ◌&&◌, ◌||◌, eqb, ltb, ◌⊎◌, ℤ, pos, ◌+ℤ◌, ◌-ℤ◌, nat_abs, ◌≤ℤ◌, ◌<ℤ◌, Some, None, Option, sym, refl, ap, ◌∙◌, subst, inl, inr, ⊎_elim, arith}
+use Rattle.std.proofs.Common.{◌≡◌, ℕ, ◌+◌, ◌-◌, ◌<◌, ◌≤◌, Bool, true, false, cond, not, ◌&&◌, ◌||◌, eqb, ◌⊎◌, ℤ, pos, ◌+ℤ◌, ◌-ℤ◌, nat_abs, ◌≤ℤ◌, ◌<ℤ◌, Some, None, Option, sym, refl, ap, ◌∙◌, subst, inl, inr, ⊎_elim, arith}
 use lib.Signed.{lt_z}
 use Rattle.std.proofs.lemmas.Int.{ints, by_lt_z}
-use Rattle.std.proofs.lemmas.Bool.{and_parts, and_from, and_left, and_right, cond-false, cases_Bool, eqb-true, eq-eqb, cases_eq, ne_eqb, cond-true, false≢true}
-use Rattle.level.specs.declared.supply.Kind.{Kind}
-use Rattle.level.specs.declared.supply.Kind.TheVariants.{Own, Free, Taken}
+use Rattle.std.proofs.lemmas.Bool.{and_parts, and_from, and_left, and_right, cond-false, false≢true}
+use Rattle.level.specs.declared.supply.Kind.TheVariants.{Own, Taken}
 use Rattle.level.specs.Ticks.{one, tally, between, is_none, is, allows, is_available, Before, Marking, MarksFor, Given}
 use Rattle.level.specs.Pass.{kind_of, is_own, is_free, own_from, free_from, picked, Passed}
 use Rattle.level.proofs.Counts.{offset}
-use Rattle.level.proofs.Tallies.{tally_ext, tally_sum, picked_yes, both, tally_both, both_in, both_first}
+use Rattle.level.proofs.Tallies.{tally_ext, tally_sum, both, tally_both, both_in, both_first}
 
 pub back : (start : ℤ) (k : ℕ) → nat_abs ((start +ℤ pos k) -ℤ start) ≡ k
 back start k = grind (arith, ints)

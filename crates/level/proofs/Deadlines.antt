@@ -1,20 +1,19 @@
 -- A constraint has run what it asked for when the clock is at its deadline.
-use Rattle.std.proofs.Common.{◌≡◌, ℕ, zero, suc, ◌+◌, ◌<◌, ◌≤◌, Bool, true, false, cond, ◌&&◌, eqb, ◌⊎◌, List, [], ◌∷◌, ◌++◌, ℤ, pos, ◌+ℤ◌, ◌-ℤ◌, nat_abs, ◌≤ℤ◌, ◌<ℤ◌, Some, None, Option, sym, refl, ap, ◌∙◌, subst, inl, inr, ⊎_elim, arith}
-use Rattle.std.proofs.lemmas.Int.{ints, by_lt_z}
-use Rattle.std.proofs.lemmas.Bool.{eqb-true, eqb-false, eq-eqb, ne_eqb, cases_eq, both_ways, cond-true, cond-false, cases_Bool, and_parts, and_from, and_left}
+use Rattle.std.proofs.Common.{◌≡◌, ℕ, suc, ◌+◌, ◌<◌, Bool, true, false, ◌&&◌, eqb, List, [], ◌∷◌, ◌++◌, ℤ, pos, ◌+ℤ◌, ◌-ℤ◌, nat_abs, ◌≤ℤ◌, ◌<ℤ◌, Some, None, Option, sym, refl, ap, ◌∙◌, subst, ⊎_elim, arith}
+use Rattle.std.proofs.lemmas.Int.{ints}
+use Rattle.std.proofs.lemmas.Bool.{eq-eqb, ne_eqb, cases_eq, both_ways, cond-true, cond-false, cases_Bool, and_parts, and_from, and_left}
 use Rattle.level.specs.declared.ticked.Letter.{Letter}
 use Rattle.level.specs.declared.ticked.Letter.TheVariants.{Constrained, Reserved, Spare, Idle}
-use Rattle.level.specs.declared.ticked.Ticked.{Ticked}
 use Rattle.level.specs.declared.ticket.Ticket.{Ticket}
 use Rattle.level.specs.declared.refusal.Refusal.TheVariants.{SeatUnavailable}
-use Rattle.level.specs.Ticks.{one, is, is_none as none, allows as lets, between}
+use Rattle.level.specs.Ticks.{one, is, is_none as none, allows as lets}
 use Rattle.level.specs.Meaning.{Constraint, Rule, Meaning, Event, woke, blocked, began, ended, left, collected, told, ticked, refused}
 use Rattle.level.specs.Refusals.{in_use}
 use Rattle.level.specs.Steps.{Step, By}
-use Rattle.level.specs.Together.{Opening, Entry, opened, called, Opens, Alone, first, next}
-use Rattle.level.specs.Promises.{ready_in, run, ran, over, ends, is_for, constrained, passes, by, count, When, ReadyAt, Unended, Deadline, EndCount, clock_in}
-use Rattle.level.proofs.Counts.{along, along_ext, along_skip, tally_along, offset, is_some, some_is, not_some, some_or_not, none_some}
-use Rattle.level.proofs.Alones.{step_kept, step_clock, ready_is, clock_is, earlier_level, Fits, FitsAt, fits, step_seat, begin_from, begin_to, begin_whom_below}
+use Rattle.level.specs.Together.{Entry, called, Alone, first, next}
+use Rattle.level.specs.Promises.{run, ran, over, ends, is_for, constrained, passes, count, When, ReadyAt, Unended, Deadline, EndCount, clock_in}
+use Rattle.level.proofs.Counts.{along, along_ext, along_skip, tally_along, offset, some_is, not_some, some_or_not}
+use Rattle.level.proofs.Alones.{ready_is, clock_is, earlier_level, Fits, fits, step_seat, begin_from, begin_to, begin_whom_below}
 use Rattle.level.proofs.Shares.{last_call, when_ready}
 
 -- seat s has the tick

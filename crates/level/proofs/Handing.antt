@@ -1,19 +1,18 @@
 -- From what the code does with seats and tickets to the steps of begin, end, leave and collect.
-use Rattle.std.proofs.Common.{◌≡◌, ℕ, ◌<◌, ◌≤◌, Bool, true, false, cond, eqb, ltb, length, get_or, set, ℤ, pos, ◌+ℤ◌, Some, None, Option, sym, refl, ap, ◌∙◌, subst, ⊎_elim, arith}
+use Rattle.std.proofs.Common.{◌≡◌, ℕ, ◌<◌, ◌≤◌, Bool, true, false, cond, eqb, length, get_or, set, ℤ, Some, None, Option, sym, refl, ap, ◌∙◌, subst, ⊎_elim}
 use Rattle.std.proofs.lemmas.Bool.{cond-true, cond-false, eq-eqb, ne_eqb, cases_eq}
 use Rattle.spare.specs.Sets.{is_ready}
 use Rattle.level.specs.declared.board.Board.{Board}
 use Rattle.level.specs.declared.inner.Inner.{Inner}
 use Rattle.level.specs.declared.level.Level.{Level}
 use Rattle.level.specs.declared.refusal.Refusal.TheVariants.{TooFew}
-use Rattle.level.specs.declared.seat.Seat.{Seat}
 use Rattle.level.specs.declared.ticket.Ticket.{Ticket}
-use Rattle.level.specs.Board.{holder, without}
+use Rattle.level.specs.Board.{holder}
 use Rattle.level.specs.Seats.{no_seat, taken, handed}
 use Rattle.level.specs.Ticks.{between, is_available, Given}
-use Rattle.level.specs.Meaning.{Constraint, Meaning, to_begin, began, ended, left, collected, refused}
-use Rattle.level.specs.Steps.{Step, Beside, Handed, Began, Ended}
-use Rattle.level.specs.Levels.{meaning, seen, seat_at, held_of}
+use Rattle.level.specs.Meaning.{Meaning, to_begin, began, ended, left, collected, refused}
+use Rattle.level.specs.Steps.{Step, Beside, Handed}
+use Rattle.level.specs.Levels.{meaning, seen, seat_at}
 use Rattle.level.specs.Parts.{Reseat, Freed, TicketIsOut, TicketIsLeft, Fine}
 use Rattle.level.proofs.Refusing.{end_sound, leave_sound, collect_sound, fine_sound, fine_few}
 use Rattle.level.proofs.Seated.{in_use_held, seat_at_lem, seat_set, seat_unset}

@@ -1,10 +1,10 @@
 -- Several levels together.
-use Rattle.std.proofs.Common.{◌≡◌, ℕ, Bool, true, false, cond, eqb, ◌⊎◌, List, [], ◌∷◌, ◌++◌, Some, None, Option, sym, refl, ap, ◌∙◌, subst, inl, inr, ⊎_elim, arith}
+use Rattle.std.proofs.Common.{◌≡◌, ℕ, eqb, List, [], ◌∷◌, Some, None, Option, sym, refl, ap, ◌∙◌, subst, ⊎_elim}
 use Rattle.std.proofs.lemmas.Bool.{eq-eqb, ne_eqb, cases_eq, cond-true, cond-false}
-use Rattle.level.specs.Meaning.{Rule, Meaning, Event}
+use Rattle.level.specs.Meaning.{Meaning, Event}
 use Rattle.level.specs.Steps.{Step}
 use Rattle.level.specs.Together.{Opening, Entry, opened, called, Tagged, Opens, put, Together, nothing, opens, calls, own_history, Alone, first, next}
-use Rattle.level.specs.Promises.{Promises, AllStand, Shared, Goes, Starts, Sharing}
+use Rattle.level.specs.Promises.{Promises, Shared, Goes, Starts, Sharing}
 use Rattle.level.proofs.Counts.{none_some}
 use Rattle.level.proofs.Alones.{number_is, clock_is, ready_is, used_is, owner_is, repeating}
 use Rattle.level.proofs.Shares.{share_kept}

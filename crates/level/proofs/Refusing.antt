@@ -1,10 +1,10 @@
 -- When nothing is wrong with a call, and by which number it is refused.
-use Rattle.std.proofs.Common.{◌≡◌, ℕ, ◌<◌, ◌≤◌, true, false, ◌⊎◌, ℤ, pos, ◌+ℤ◌, ◌≤ℤ◌, ◌<ℤ◌, Some, None, Option, refl, subst, inl, inr, ⊎_elim, arith}
+use Rattle.std.proofs.Common.{◌≡◌, ℕ, ◌<◌, ◌≤◌, true, false, ◌⊎◌, ℤ, pos, ◌+ℤ◌, ◌≤ℤ◌, ◌<ℤ◌, Some, None, Option, refl, subst, ⊎_elim, arith}
 use Rattle.std.proofs.lemmas.Int.{ints}
 use Rattle.std.proofs.lemmas.Bool.{both_ways}
 use Rattle.level.specs.declared.ticket.Ticket.{Ticket}
 use Rattle.level.specs.declared.refusal.Refusal.{Refusal}
-use Rattle.level.specs.declared.refusal.Refusal.TheVariants.{ClockAtEnd, UnknownActivity, ZeroEstimate, EarlyStart, BadDeadline, SeatUnavailable, TooFew, InvalidTicket, NoTicketLeft}
+use Rattle.level.specs.declared.refusal.Refusal.TheVariants.{ClockAtEnd, UnknownActivity, TooFew, InvalidTicket, NoTicketLeft}
 use Rattle.level.specs.Numbers.{number_of}
 use Rattle.level.specs.Ticks.{between}
 use Rattle.level.specs.Meaning.{Constraint, Meaning, Event, to_wake, to_block, to_begin, to_end, to_leave, to_collect, to_used, to_tick}

@@ -1,10 +1,9 @@
 -- A call with one answer leaves one level.
-use Rattle.std.proofs.Common.{◌≡◌, ℕ, ◌+◌, Bool, true, false, cond, ◌⊎◌, ℤ, pos, ◌+ℤ◌, ◌≤ℤ◌, ◌<ℤ◌, Some, None, Option, sym, refl, ap, ◌∙◌, subst, inl, inr, ⊎_elim, arith}
+use Rattle.std.proofs.Common.{◌≡◌, ℕ, Bool, true, false, cond, ◌⊎◌, ℤ, Some, None, Option, sym, refl, ap, ◌∙◌, subst, inl, inr, ⊎_elim, arith}
 use Rattle.std.proofs.lemmas.Int.{ints, by_lt_z}
 use Rattle.std.proofs.lemmas.Bool.{cases_eq}
 use Rattle.level.specs.declared.ticked.Letter.{Letter}
 use Rattle.level.specs.declared.ticked.Letter.TheVariants.{Constrained, Reserved, Spare, Idle}
-use Rattle.level.specs.Ticks.{one, is}
 use Rattle.level.specs.Meaning.{Constraint, Meaning, Event, woke, blocked, began, ended, left, collected, told, ticked, refused}
 use Rattle.level.specs.Refusals.{available, own}
 use Rattle.level.specs.Steps.{Step, Kept, Beside, Switched, Reseated, Handed, By, SameLevel, with_ticket, one_more_run}

@@ -1,21 +1,20 @@
 -- The holder runs its share.
-use Rattle.std.proofs.Common.{◌≡◌, ℕ, zero, suc, ◌+◌, ◌<◌, ◌≤◌, Bool, true, false, cond, eqb, ◌⊎◌, List, [], ◌∷◌, ◌++◌, ℤ, pos, ◌+ℤ◌, Some, None, Option, sym, refl, ap, ◌∙◌, subst, inl, inr, ⊎_elim, zero-add, one-add, arith}
+use Rattle.std.proofs.Common.{◌≡◌, ℕ, suc, ◌+◌, ◌<◌, ◌≤◌, Bool, true, false, cond, eqb, List, [], ◌∷◌, ◌++◌, ℤ, pos, ◌+ℤ◌, Some, None, Option, sym, refl, ap, ◌∙◌, subst, ⊎_elim, zero-add, one-add, arith}
 use Rattle.std.proofs.lemmas.Int.{ints}
-use Rattle.std.proofs.lemmas.Bool.{eqb-true, eqb-false, eq-eqb, ne_eqb, cases_eq, both_ways}
+use Rattle.std.proofs.lemmas.Bool.{eqb-true, both_ways}
 use Rattle.level.specs.declared.ticked.Letter.{Letter}
 use Rattle.level.specs.declared.ticked.Letter.TheVariants.{Constrained, Reserved, Spare, Idle}
 use Rattle.level.specs.declared.ticked.Ticked.{Ticked}
-use Rattle.reservation.specs.declared.reservation.Reservation.{Reservation}
 use Rattle.reservation.specs.Windows.{is_owner, owned_at, owned}
 use Rattle.reservation.specs.Reservations
 use Rattle.reservation.specs.Reservations.{Passes}
-use Rattle.level.specs.Ticks.{one, is, is_none as none, allows as lets}
-use Rattle.level.specs.Meaning.{Constraint, Rule, Meaning, Event, woke, blocked, began, ended, left, collected, told, ticked, refused}
+use Rattle.level.specs.Ticks.{one, is, allows as lets}
+use Rattle.level.specs.Meaning.{Rule, Meaning, Event, woke, blocked, began, ended, left, collected, told, ticked, refused}
 use Rattle.level.specs.Steps.{Step, By, ByNeither}
-use Rattle.level.specs.Together.{Opening, Entry, opened, called, Opens, Alone, first, next}
-use Rattle.level.specs.Promises.{ready_in, run, ran, passes, any, by, count, When, ReadyAt, clock_after, Share, owner_in}
-use Rattle.level.proofs.Counts.{is_some, some_is, not_some, some_or_not, none_some}
-use Rattle.level.proofs.Alones.{step_kept, step_clock, ready_is, owner_is, earlier_level, Fits, FitsAt, fits}
+use Rattle.level.specs.Together.{Opening, Entry, opened, called, Alone, first, next}
+use Rattle.level.specs.Promises.{ready_in, run, ran, passes, any, by, count, When, ReadyAt, Share, owner_in}
+use Rattle.level.proofs.Counts.{not_some}
+use Rattle.level.proofs.Alones.{ready_is, owner_is, earlier_level, Fits, fits}
 
 -- whom the owner of a tick lets mark it: itself
 lets_own : (b a : ℕ) (o : Option ℕ) → lets b o ≡ true → one (is a o) ≤ one (eqb b a)

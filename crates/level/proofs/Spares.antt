@@ -1,15 +1,15 @@
 -- Everybody who is ready gets its turn of the spare ticks.
-use Rattle.std.proofs.Common.{◌≡◌, ℕ, zero, suc, ◌+◌, ◌<◌, ◌≤◌, Bool, true, false, cond, ◌&&◌, eqb, ◌⊎◌, List, [], ◌∷◌, ◌++◌, ℤ, pos, ◌+ℤ◌, Some, None, Option, sym, refl, ap, ◌∙◌, subst, inl, inr, ⊎_elim, arith}
-use Rattle.std.proofs.lemmas.Bool.{eqb-true, eqb-false, eq-eqb, ne_eqb, cases_eq, both_ways}
+use Rattle.std.proofs.Common.{◌≡◌, ℕ, ◌+◌, ◌<◌, ◌≤◌, Bool, true, false, ◌&&◌, ◌⊎◌, List, [], ◌∷◌, ◌++◌, ℤ, Some, None, Option, sym, refl, ap, ◌∙◌, subst, inl, inr, ⊎_elim, arith}
+use Rattle.std.proofs.lemmas.Bool.{eqb-false, cases_eq, both_ways}
 use Rattle.level.specs.declared.ticked.Letter.{Letter}
 use Rattle.level.specs.declared.ticked.Letter.TheVariants.{Constrained, Reserved, Spare, Idle}
 use Rattle.level.specs.declared.ticked.Ticked.{Ticked}
-use Rattle.level.specs.Ticks.{one, is}
-use Rattle.level.specs.Meaning.{Constraint, Rule, Meaning, Event, woke, blocked, began, ended, left, collected, told, ticked, refused}
+use Rattle.level.specs.Ticks.{one}
+use Rattle.level.specs.Meaning.{Rule, Meaning, Event, woke, blocked, began, ended, left, collected, told, ticked, refused}
 use Rattle.level.specs.Steps.{Step, By, Kept}
-use Rattle.level.specs.Together.{Opening, Entry, opened, called, Opens, Alone, first, next}
-use Rattle.level.specs.Promises.{ready_in, run, ran, is_spare, spare, spare_by, passes, by, count, When, ReadyAt, SpareTurn, rule_in, Moves, Nearer, RuleSteady}
-use Rattle.level.proofs.Alones.{step_kept, ready_is, rule_is, earlier_level}
+use Rattle.level.specs.Together.{Entry, called, Alone, first, next}
+use Rattle.level.specs.Promises.{ready_in, run, ran, spare, spare_by, passes, by, count, When, ReadyAt, SpareTurn, rule_in, Moves, RuleSteady}
+use Rattle.level.proofs.Alones.{ready_is, rule_is, earlier_level}
 use Rattle.level.proofs.Shares.{last_call, when_ready, at_opening}
 
 -- what a call does to the rule

@@ -1,5 +1,5 @@
 -- From what the code does at a tick to the step of a tick.
-use Rattle.std.proofs.Common.{◌≡◌, ℕ, ◌+◌, ◌<◌, Bool, true, false, cond, eqb, ltb, get_or, ℤ, pos, ◌+ℤ◌, Some, None, Option, sym, refl, ap, ◌∙◌, subst, arith}
+use Rattle.std.proofs.Common.{◌≡◌, ℕ, ◌+◌, ◌<◌, true, false, cond, ltb, get_or, ℤ, pos, ◌+ℤ◌, Some, None, Option, sym, refl, ap, ◌∙◌, subst}
 use mathlib.Core.Path.{fun_ext}
 use Rattle.std.proofs.lemmas.Bool.{eq-eqb, ne_eqb, cond-true, cond-false}
 use Rattle.spare.specs.Chosen.{Chosen, Within}
@@ -12,7 +12,7 @@ use Rattle.level.specs.Board.{holder, turned}
 use Rattle.level.specs.Seats.{no_seat, one_more}
 use Rattle.level.specs.Ticks.{one, is}
 use Rattle.level.specs.Meaning.{Constraint, Meaning, ticked}
-use Rattle.level.specs.Steps.{Step, By, ByMark, ByRule, Reseated, one_more_run}
+use Rattle.level.specs.Steps.{Step, By, ByMark, one_more_run}
 use Rattle.level.specs.Promises.{is_for}
 use Rattle.level.specs.Levels.{meaning, held_of}
 use Rattle.level.specs.Parts.{RunnerOf, GivenTo, Advanced}

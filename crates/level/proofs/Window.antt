@@ -1,7 +1,7 @@
 -- Within 1024 ticks no two have one cell.
-use Rattle.std.proofs.Common.{◌≡◌, ℕ, zero, suc, ◌+◌, ◌*◌, ◌<◌, ◌≤◌, get_or, replicate, ℤ, pos, negsuc, ◌+ℤ◌, ◌*ℤ◌, ◌≤ℤ◌, ◌<ℤ◌, Some, None, Option, refl, arith}
+use Rattle.std.proofs.Common.{◌≡◌, ℕ, zero, suc, get_or, replicate, ℤ, pos, ◌+ℤ◌, ◌*ℤ◌, ◌≤ℤ◌, ◌<ℤ◌, None, Option, refl, arith}
 use Rattle.std.proofs.lemmas.Int.{ints}
-use Rattle.clock.specs.Floor.{floor_div, floor_mod}
+use Rattle.clock.specs.Floor.{floor_div}
 use Rattle.clock.proofs.Laws.{floor_parts}
 use Rattle.level.specs.Board.{slot}
 

@@ -1,5 +1,5 @@
 -- Who each tick is marked for.
-use Rattle.std.specs.Prelude.{ℕ, Bool, cond, ℤ, Some, None, Option, ◌==◌, slice_index_or}
+use Rattle.std.specs.Prelude.{ℕ, cond, ℤ, Some, None, Option, ◌==◌, slice_index_or}
 use Rattle.clock.specs.Floor.{floor_mod}
 use Rattle.level.specs.declared.board.Board.{Board}
 

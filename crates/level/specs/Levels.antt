@@ -1,5 +1,5 @@
 -- What the code's level means, which events its calls are, and what their contracts say.
-use Rattle.std.specs.Prelude.{◌≡◌, ℕ, ◌+◌, Bool, cond, not, ◌&&◌, List, ℤ, pos, ◌+ℤ◌, Some, None, Ok, Err, Option, Result, int_lt, nat_lt, slice_index, slice_index_or}
+use Rattle.std.specs.Prelude.{◌≡◌, ℕ, Bool, cond, not, ◌&&◌, List, ℤ, pos, ◌+ℤ◌, Some, None, Ok, Err, Option, Result, int_lt, nat_lt, slice_index, slice_index_or}
 use Rattle.spare.specs.Sets.{is_ready}
 use Rattle.level.specs.declared.seat.Seat.{Seat}
 use Rattle.level.specs.declared.level.Level.{Level}
@@ -10,7 +10,6 @@ use Rattle.level.specs.declared.refusal.Refusal.{Refusal}
 use Rattle.level.specs.declared.ticket.Ticket.{Ticket}
 use Rattle.level.specs.Board.{holder}
 use Rattle.level.specs.Seats.{no_seat}
-use Rattle.level.specs.Ticks.{is}
 use Rattle.level.specs.Meaning.{Constraint, Meaning, to_wake, to_block, to_begin, to_end, to_leave, to_collect, to_used, to_tick, Event, woke, blocked, began, ended, left, collected, told, ticked, refused}
 use Rattle.level.specs.Steps.{Step, Only}
 use Rattle.level.specs.Together.{Opens}

@@ -1,5 +1,5 @@
 -- The passes over a window: one counts own and free ticks, and the other marks the first of each.
-use Rattle.std.specs.Prelude.{◌≡◌, ℕ, ◌+◌, ◌-◌, ◌<◌, Bool, true, false, cond, ◌&&◌, ◌||◌, ◌⊎◌, ℤ, pos, ◌+ℤ◌, ◌≤ℤ◌, ◌<ℤ◌, Some, None, Option, ◌==◌, nat_lt}
+use Rattle.std.specs.Prelude.{◌≡◌, ℕ, ◌-◌, ◌<◌, Bool, true, false, cond, ◌&&◌, ◌||◌, ◌⊎◌, ℤ, pos, ◌+ℤ◌, ◌≤ℤ◌, ◌<ℤ◌, Some, None, Option, ◌==◌, nat_lt}
 use Rattle.level.specs.declared.supply.Kind.{Kind}
 use Rattle.level.specs.declared.supply.Kind.TheVariants.{Own, Free, Taken}
 use Rattle.level.specs.Ticks.{tally}

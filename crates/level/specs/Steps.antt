@@ -6,7 +6,7 @@ use Rattle.level.specs.declared.ticked.Letter.TheVariants.{Constrained, Reserved
 use Rattle.level.specs.declared.ticked.Ticked.{Ticked}
 use Rattle.level.specs.declared.ticket.Ticket.{Ticket}
 use Rattle.level.specs.Ticks.{one, is, Marking}
-use Rattle.level.specs.Meaning.{Constraint, Rule, Meaning, to_wake, to_block, to_begin, to_end, to_leave, to_collect, to_used, to_tick, Event, woke, blocked, began, ended, left, collected, told, ticked, refused, call_of}
+use Rattle.level.specs.Meaning.{Constraint, Meaning, to_wake, to_block, to_begin, to_end, to_leave, to_collect, to_used, to_tick, Event, woke, blocked, began, ended, left, collected, told, ticked, refused, call_of}
 use Rattle.level.specs.Refusals.{available, own, Sound, Refused}
 
 -- what no call changes

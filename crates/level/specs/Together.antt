@@ -1,5 +1,5 @@
 -- Several levels, each under a number of its own, and the history of all calls made on them.
-use Rattle.std.specs.Prelude.{◌≡◌, ℕ, ◌≤◌, Bool, false, cond, List, [], ◌∷◌, ℤ, pos, ◌+ℤ◌, Some, None, Option, ◌==◌}
+use Rattle.std.specs.Prelude.{◌≡◌, ℕ, ◌≤◌, false, cond, List, [], ◌∷◌, ℤ, pos, ◌+ℤ◌, Some, None, Option, ◌==◌}
 use Rattle.timetable.specs.Owners.{Known}
 use Rattle.spare.specs.Chosen.{Within}
 use Rattle.level.specs.Meaning.{Rule, Meaning, Event}

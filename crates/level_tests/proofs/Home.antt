@@ -1,5 +1,5 @@
 -- A constraint that was just begun is ended by its ticket.
-use Rattle.std.proofs.Common.{◌≡◌, ℕ, ℤ, sym, refl, ap, ◌∙◌, subst}
+use Rattle.std.proofs.Common.{◌≡◌, ℕ, ℤ, sym, refl, ap, ◌∙◌}
 use Rattle.level.specs.declared.ticket.Ticket.{Ticket}
 use Rattle.level.specs.declared.refusal.Refusal.{Refusal}
 use Rattle.level.specs.Meaning.{Meaning, to_end, began, refused}

@@ -1,5 +1,5 @@
 -- A line that is read and played takes a rehearsal on.
-use Rattle.std.proofs.Common.{◌≡◌, ℕ, List, [], Some, None, Option, sym, refl, ap, ◌∙◌, subst, inl, inr}
+use Rattle.std.proofs.Common.{◌≡◌, ℕ, List, [], Some, None, Option, sym, ap, ◌∙◌, subst, inl, inr}
 use Rattle.level.specs.Meaning.{Meaning}
 use Rattle.command.specs.declared.command.Command.{Command}
 use Rattle.command.specs.declared.command.Command.TheVariants.{Open, Wake, Block, Tick, Begin, End}
@@ -8,7 +8,7 @@ use Rattle.row.specs.declared.row.Row.TheVariants.{Malformed}
 use Rattle.command.specs.Grammar.{Begins, ReadOnce}
 use Rattle.command.specs.Reading.{next_line}
 use Rattle.command.specs.Scripts.{Opens}
-use Rattle.rehearsal.specs.Rehearsals.{State, Plays, Played, Follows, LinePlayed, LineRefused, NextLine}
+use Rattle.rehearsal.specs.Rehearsals.{State, Plays, Played, Follows, LinePlayed, NextLine}
 
 -- the line is read, and nothing is played yet
 pub record LineRead (s : State) (k : ℕ) (c : Command) (m : State) : Type 0 where

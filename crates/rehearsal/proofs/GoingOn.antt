@@ -1,5 +1,5 @@
 -- The same with the spare rule itself followed.
-use Rattle.std.proofs.Common.{◌≡◌, ℕ, Bool, List, [], ◌∷◌, Some, None, Option, sym, refl, ap, ◌∙◌, subst, inl, inr, arith}
+use Rattle.std.proofs.Common.{◌≡◌, ℕ, Bool, List, [], Some, None, Option, sym, ap, ◌∙◌, subst, inl, inr, arith}
 use Rattle.command.specs.declared.command.Command.{Command}
 use Rattle.command.specs.declared.command.Command.TheVariants.{Open, Wake, Block, Tick, Begin, End}
 use Rattle.command.specs.Grammar.{Begins, ReadOnce}
@@ -8,7 +8,7 @@ use Rattle.command.specs.Scripts.{Opens}
 use Rattle.row.specs.declared.row.Row.{Row}
 use Rattle.row.specs.declared.row.Row.TheVariants.{Malformed}
 use Rattle.rehearsal.specs.Stages.{Stage, rows_in}
-use Rattle.rehearsal.specs.Onwards.{Standing, RunsCommand, CommandPlayed, LineGoes, RunsLine, StopsAtLine, RunsNext}
+use Rattle.rehearsal.specs.Onwards.{Standing, RunsCommand, CommandPlayed, LineGoes, RunsLine, RunsNext}
 
 -- the line is read, and nothing is played yet
 pub record LineReadOn {R : Type 0} (s : Standing R) (k : ℕ) (c : Command) (m : Standing R) : Type 0 where

@@ -1,6 +1,5 @@
 -- A sheet and a script have one list of rows.
-use Rattle.std.proofs.Common.{◌≡◌, ℕ, ◌+◌, ◌*◌, ◌^◌, ◌<◌, ◌≤◌, ◌⊎◌, List, [], ◌∷◌, ◌++◌, length, ℤ, Ok, Err, Option, Result, sym, refl, ap, ◌∙◌, subst, inl, inr, arith}
-use mathlib.Core.Path.{fun_ext}
+use Rattle.std.proofs.Common.{◌≡◌, ℕ, ◌+◌, ◌*◌, ◌^◌, List, [], ◌∷◌, ◌++◌, length, ℤ, Ok, Err, Option, Result, sym, refl, ap, ◌∙◌, subst, inl, inr, arith}
 use Rattle.plan.specs.declared.entry.Entry.{Entry}
 use Rattle.plan.specs.declared.fault.PlanFault.TheVariants.{Memory as NoMemory}
 use Rattle.plan.specs.Owners.{owner_in}
@@ -9,26 +8,22 @@ use Rattle.reservation.specs.declared.reservation.Reservation.{Reservation}
 use Rattle.reservation.specs.Reservations.{Passes}
 use Rattle.sheet.specs.declared.fault.SheetFault.{SheetFault}
 use Rattle.sheet.specs.declared.fault.SheetFault.TheVariants.{Plan}
-use Rattle.sheet.specs.Told.{Holds, Refused, Told, no_memory}
+use Rattle.sheet.specs.Told.{Holds, Refused, no_memory}
 use Rattle.sheet.proofs.Once.{holds_once, told_once}
 use Rattle.spare.specs.declared.hold.Hold.{Hold}
 use Rattle.spare.specs.declared.queue.Queue.{Queue}
-use Rattle.level.specs.Meaning.{Meaning, Event}
+use Rattle.level.specs.Meaning.{Meaning}
 use Rattle.level.specs.Together.{Opening, Opens}
-use Rattle.level.specs.Steps.{SameLevel}
 use Rattle.command.specs.declared.command.Command.{Command}
 use Rattle.command.specs.declared.command.Command.TheVariants.{Open}
-use Rattle.command.specs.Grammar.{command_text, Begins}
+use Rattle.command.specs.Grammar.{Begins}
 use Rattle.command.specs.Openings.{Unopened}
 use Rattle.command.specs.Scripts.{lines_of, Playable, Says}
-use Rattle.command.specs.Scripts
 use Rattle.command.proofs.Says.{read_once}
 use Rattle.row.specs.declared.row.Row.{Row}
-use Rattle.row.specs.declared.row.Row.TheVariants.{Malformed}
 use Rattle.rehearsal.specs.Calls.{rows_of, MakesAll}
-use Rattle.rehearsal.specs.Stages.{Stage, Through}
 use Rattle.rehearsal.specs.Onwards.{malformed_row}
-use Rattle.rehearsal.specs.Whole.{held_distance, held_patience, held_step, Fresh, Start, PlayedFrom, ScriptRows, unopened, played, Rehearsed, sheet_refused, on_sheet, ScriptRowsOnce, RowsOnce}
+use Rattle.rehearsal.specs.Whole.{Fresh, Start, PlayedFrom, ScriptRows, unopened, played, sheet_refused, on_sheet, ScriptRowsOnce, RowsOnce}
 use Rattle.rehearsal.proofs.SameRules.{SameRule, same_meaning}
 use Rattle.rehearsal.proofs.SameCalls.{SameStage, same_level, commands_agree, calls_once}
 

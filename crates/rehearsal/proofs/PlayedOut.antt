@@ -1,5 +1,5 @@
 -- Calls that go on until nothing is left have played all that the script says.
-use Rattle.std.proofs.Common.{◌≡◌, ℕ, suc, ◌+◌, ◌-◌, ◌<◌, ◌≤◌, Bool, ◌⊎◌, List, [], ◌∷◌, ◌++◌, length, Ok, Err, Option, Result, sym, refl, ap, ◌∙◌, subst, inl, inr, append_assoc, append-nil, arith}
+use Rattle.std.proofs.Common.{◌≡◌, ℕ, suc, ◌-◌, ◌<◌, Bool, List, [], ◌∷◌, ◌++◌, length, Ok, Err, Option, Result, sym, refl, ap, ◌∙◌, subst, inl, inr, append_assoc, append-nil, arith}
 use Rattle.std.proofs.lemmas.List.{length-append}
 use Rattle.level.specs.declared.ticked.Ticked.{Ticked}
 use Rattle.level.specs.declared.refusal.Refusal.{Refusal}
@@ -8,16 +8,15 @@ use Rattle.level.specs.Meaning.{Event, to_tick, ticked, refused}
 use Rattle.level.specs.Levels.{tick_event}
 use Rattle.command.specs.declared.command.Command.{Command}
 use Rattle.command.specs.declared.command.Command.TheVariants.{Open, Wake, Block, Tick, Begin, End}
-use Rattle.command.specs.Grammar.{InRange, command_text, Begins}
-use Rattle.command.specs.Reading.{next_line}
-use Rattle.command.specs.Scripts.{Opens, lines_of, Playable, Says}
+use Rattle.command.specs.Grammar.{command_text}
+use Rattle.command.specs.Scripts.{Opens, lines_of, Says}
 use Rattle.row.specs.declared.row.Row.{Row}
 use Rattle.row.specs.declared.row.Row.TheVariants.{Ran, TickRefused, Malformed}
 use Rattle.rehearsal.specs.declared.rehearsal.Progress.TheVariants.{Told, Silent, Over}
 use Rattle.rehearsal.specs.Calls.{call_rows, rows_of, TicksOf, all_run, one_run, stopped, Makes, MakesAll, no_calls, then_calls}
 use Rattle.rehearsal.specs.Stages.{Stage, CallOn, Through, no_more, call_then, PlaysCommand}
 use Rattle.rehearsal.specs.Rehearsals.{ticks_after}
-use Rattle.rehearsal.specs.Onwards.{Standing, line_after, malformed_row, RunsTick, RunsCommand, RunsLine, StopsAtLine, RunsOn, Onwards, not_yet, on_by, PlaysOut}
+use Rattle.rehearsal.specs.Onwards.{Standing, line_after, malformed_row, RunsCommand, RunsLine, StopsAtLine, Onwards, not_yet, on_by, PlaysOut}
 
 -- Lists of calls.
 

@@ -1,5 +1,5 @@
 -- A rehearsal that goes on comes to its end, and what it has told reaches the sink.
-use Rattle.std.proofs.Common.{◌≡◌, ℕ, ◌+◌, ◌-◌, ◌*◌, ◌<◌, ◌≤◌, Bool, ◌⊎◌, List, [], ◌∷◌, ◌++◌, length, Ok, Err, Option, Result, sym, refl, ap, ◌∙◌, subst, inl, inr, append_assoc, append-nil, arith}
+use Rattle.std.proofs.Common.{◌≡◌, ℕ, ◌+◌, ◌*◌, ◌<◌, ◌≤◌, Bool, List, [], ◌∷◌, ◌++◌, length, Ok, Err, Option, Result, sym, refl, ap, ◌∙◌, subst, inl, inr, append_assoc, append-nil, arith}
 use Rattle.std.proofs.lemmas.List.{length-append}
 use Rattle.command.specs.declared.command.Command.{Command}
 use Rattle.command.specs.declared.command.Command.TheVariants.{Open, Wake, Block, Tick, Begin, End}
@@ -11,11 +11,11 @@ use Rattle.row.specs.declared.buffer.RowBuffer.{RowBuffer}
 use Rattle.row.specs.Buffers.{waiting, Flushes}
 use Rattle.row.specs.Sinks.{rows_text, Handed, nothing, more}
 use Rattle.rehearsal.specs.declared.rehearsal.Progress.{Progress}
-use Rattle.rehearsal.specs.declared.rehearsal.Progress.TheVariants.{Told, Silent, Over}
+use Rattle.rehearsal.specs.declared.rehearsal.Progress.TheVariants.{Told, Over}
 use Rattle.rehearsal.specs.Stages.{Stage}
 use Rattle.rehearsal.specs.Rehearsals.{ticks_after}
-use Rattle.rehearsal.specs.Onwards.{Standing, told_by, RunsTick, RunsCommand, RunsLine, StopsAtLine, RunsOn, Onwards, not_yet, on_by, PlaysOut}
-use Rattle.rehearsal.specs.Runs.{BrokenOff, RunOut, RunBroken, Runs}
+use Rattle.rehearsal.specs.Onwards.{Standing, told_by, RunsCommand, RunsLine, RunsOn, Onwards, not_yet, on_by, PlaysOut}
+use Rattle.rehearsal.specs.Runs.{RunOut, RunBroken, Runs}
 use Rattle.rehearsal.proofs.PlayedOut.{played_out}
 
 -- What is still to be played falls.

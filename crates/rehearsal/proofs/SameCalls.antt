@@ -1,12 +1,11 @@
 -- The same calls on the same level have the same answers.
-use Rattle.std.proofs.Common.{◌≡◌, ℕ, suc, Bool, ◌⊎◌, List, [], ◌∷◌, ◌++◌, ℤ, Some, None, Ok, Err, Option, Result, sym, refl, ap, ◌∙◌, subst, inl, inr, arith}
+use Rattle.std.proofs.Common.{◌≡◌, ℕ, Bool, List, [], ◌∷◌, ◌++◌, ℤ, Some, Ok, Err, Option, Result, sym, refl, ap, ◌∙◌, subst, inl, inr, arith}
 use mathlib.Core.Path.{fun_ext}
 use Rattle.spare.specs.declared.hold.Hold.{Hold}
 use Rattle.spare.specs.declared.queue.Queue.{Queue}
 use Rattle.spare.specs.Chosen.{CallOf}
 use Rattle.level.specs.declared.ticked.Letter.{Letter}
 use Rattle.level.specs.declared.ticked.Letter.TheVariants.{Constrained, Reserved, Spare, Idle}
-use Rattle.level.specs.declared.ticked.Ticked.{Ticked}
 use Rattle.level.specs.declared.ticket.Ticket.{Ticket}
 use Rattle.level.specs.declared.refusal.Refusal.{Refusal}
 use Rattle.level.specs.declared.constraint.Constraint.{Constraint}
@@ -16,7 +15,7 @@ use Rattle.level.specs.Levels.{Asked, wake_event, block_event, begin_event, coll
 use Rattle.command.specs.declared.command.Command.{Command}
 use Rattle.command.specs.declared.command.Command.TheVariants.{Open, Wake, Block, Tick, Begin, End}
 use Rattle.rehearsal.specs.Calls.{TicksOf, all_run, one_run, stopped, leave_after, end_after, Makes, MakesAll, no_calls, then_calls}
-use Rattle.rehearsal.specs.Stages.{Stage, AsksRule, CallOn, Through, no_more, call_then}
+use Rattle.rehearsal.specs.Stages.{Stage, AsksRule, CallOn, Through, call_then}
 use Rattle.rehearsal.specs.Whole.{held_distance, held_patience, held_step}
 use Rattle.rehearsal.proofs.SameRules.{SameRule, same_on, same_meaning, hold_once}
 

@@ -1,5 +1,5 @@
 -- A queue under a hold names one activity, and no other.
-use Rattle.std.proofs.Common.{◌≡◌, ℕ, ◌+◌, ◌*◌, Bool, true, false, ◌&&◌, ltb, List, Some, None, MatchBool, Option, sym, refl, ap, ◌∙◌, subst, arith}
+use Rattle.std.proofs.Common.{◌≡◌, ℕ, ◌+◌, ◌*◌, Bool, true, false, ◌&&◌, ltb, List, Some, None, MatchBool, Option, sym, ap, ◌∙◌, subst, arith}
 use Rattle.spare.specs.declared.hold.Hold.{Hold}
 use Rattle.spare.specs.declared.queue.Queue.{Queue}
 use Rattle.spare.specs.Holds.{choice_ready, repeating, Repeats, Takes, Asks, HoldStep}

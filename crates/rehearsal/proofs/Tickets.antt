@@ -1,11 +1,11 @@
 -- A ticket that the level has just given out is taken back.
-use Rattle.std.proofs.Common.{◌≡◌, ℕ, Bool, true, false, ◌⊎◌, ℤ, Some, None, Option, sym, refl, ap, ◌∙◌, subst, inl, inr, ⊎_elim, arith}
+use Rattle.std.proofs.Common.{◌≡◌, ℕ, true, false, ◌⊎◌, ℤ, Some, Option, sym, refl, ap, ◌∙◌, subst, inl, inr, arith}
 use Rattle.level.specs.declared.refusal.Refusal.{Refusal}
 use Rattle.level.specs.declared.constraint.Constraint.{Constraint}
 use Rattle.level.specs.declared.ticket.Ticket.{Ticket}
 use Rattle.level.specs.Meaning.{Meaning, to_leave, to_end, began, collected, refused}
 use Rattle.level.specs.Refusals.{NotOut, Wrong, leave_foreign, leave_not_out, end_foreign, end_not_out}
-use Rattle.level.specs.Steps.{Step, with_ticket}
+use Rattle.level.specs.Steps.{Step}
 
 wrong_leave : (m : Meaning) (x : Ticket) (r : Refusal) → Wrong m (to_leave x) r → (x.level ≡ m.number → ⊥) ⊎ NotOut (m.seats x.seat)
 wrong_leave m x r (leave_foreign f) = inl f

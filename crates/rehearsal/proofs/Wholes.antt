@@ -1,5 +1,5 @@
 -- A script that is played to its end has told a whole rehearsal.
-use Rattle.std.proofs.Common.{◌≡◌, ℕ, ◌+◌, ◌*◌, ◌^◌, ◌<◌, ◌≤◌, min, Bool, List, [], ◌∷◌, ◌++◌, length, ℤ, Some, None, Ok, Err, Option, Result, sym, refl, ap, ◌∙◌, subst, append-nil, arith}
+use Rattle.std.proofs.Common.{◌≡◌, ℕ, ◌+◌, ◌*◌, ◌^◌, ◌≤◌, List, [], ◌∷◌, ◌++◌, length, ℤ, Some, None, Ok, Err, Option, Result, sym, refl, ap, ◌∙◌, subst, append-nil, arith}
 use Rattle.std.proofs.lemmas.List.{length-append}
 use Rattle.plan.specs.declared.entry.Entry.{Entry}
 use Rattle.plan.specs.declared.fault.PlanFault.{PlanFault}
@@ -22,7 +22,7 @@ use Rattle.level.specs.Meaning.{Event}
 use Rattle.level.specs.Levels.{meaning, Opened}
 use Rattle.command.specs.declared.command.Command.{Command}
 use Rattle.command.specs.declared.command.Command.TheVariants.{Open}
-use Rattle.command.specs.Grammar.{command_text, Begins}
+use Rattle.command.specs.Grammar.{command_text}
 use Rattle.command.specs.Reading.{next_line}
 use Rattle.command.specs.Scripts.{lines_of}
 use Rattle.row.specs.declared.row.Row.{Row}
@@ -34,7 +34,7 @@ use Rattle.rehearsal.specs.Calls.{rows_of}
 use Rattle.rehearsal.specs.Stages.{Stage, Through}
 use Rattle.rehearsal.specs.Onwards.{Standing, line_after, malformed_row, Onwards, PlaysOut}
 use Rattle.rehearsal.specs.Runs.{BrokenOff, Runs}
-use Rattle.rehearsal.specs.Whole.{held_distance, held_patience, held_step, Fresh, Start, PlayedFrom, ScriptRows, played, RowsSoFar, all_rows, under_way, sheet_refused, on_sheet, output_of, TellsScript, Tells}
+use Rattle.rehearsal.specs.Whole.{held_distance, held_patience, held_step, Fresh, Start, PlayedFrom, ScriptRows, played, all_rows, under_way, sheet_refused, on_sheet, output_of, TellsScript, Tells}
 use Rattle.rehearsal.proofs.PlayedOut.{no_ticks}
 use Rattle.rehearsal.proofs.Histories.{history_of}
 

@@ -1,5 +1,5 @@
 -- Commands played on a level, the spare rule itself followed beside it.
-use Rattle.std.specs.Prelude.{◌≡◌, ℕ, Bool, List, [], ◌∷◌, ◌++◌, ℤ, Some, None, Option, Result}
+use Rattle.std.specs.Prelude.{◌≡◌, ℕ, Bool, List, [], ◌∷◌, ℤ, Some, None, Option, Result}
 use Rattle.spare.specs.Chosen.{CallOf}
 use Rattle.level.specs.declared.level.Level.{Level}
 use Rattle.level.specs.declared.refusal.Refusal.{Refusal}

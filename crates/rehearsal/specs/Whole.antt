@@ -1,5 +1,5 @@
 -- A whole rehearsal, from the bytes of a sheet and of a script to its rows.
-use Rattle.std.specs.Prelude.{◌≡◌, ℕ, ◌+◌, ◌*◌, ◌^◌, ◌≤◌, Bool, List, [], ◌∷◌, ◌++◌, length, ℤ, Some, None, Ok, Err, Option, Result, ◌≢◌}
+use Rattle.std.specs.Prelude.{◌≡◌, ℕ, ◌+◌, ◌*◌, ◌^◌, ◌≤◌, Bool, List, [], ◌∷◌, ◌++◌, length, ℤ, None, Ok, Err, Option, Result, ◌≢◌}
 use Rattle.plan.specs.declared.fault.PlanFault.TheVariants.{Memory as NoMemory}
 use Rattle.plan.specs.Owners as plan
 use Rattle.plan.specs.Told as plan-told
@@ -13,7 +13,7 @@ use Rattle.spare.specs.Chosen.{CallOf}
 use Rattle.spare.specs.Holds.{HoldStep}
 use Rattle.spare.specs.Orders.{QueueStep, place_of, in_order}
 use Rattle.level.specs.Meaning.{Event}
-use Rattle.level.specs.Together.{Opening, Entry, opened, called}
+use Rattle.level.specs.Together.{Entry, opened, called}
 use Rattle.level.specs.Promises.{Stands}
 use Rattle.level.specs.Levels.{Opened}
 use Rattle.command.specs.declared.command.Command.{Command}

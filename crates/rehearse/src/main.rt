@@ -48,25 +48,31 @@ fn read_input(rt: &HostRuntime, buf: &mut [u8]) -> io::Result<usize>
     Ok(have)
 }
 
-// Whether there is a plan in the sheet to play on.
-fn has_plan(heap: Global, sheet: &[u8]) -> bool {
+// Whether the sheet is refused. Want of memory is no verdict on it.
+fn is_refused(heap: Global, sheet: &[u8]) -> anyhow::Result<bool> {
     let mut plan = Plan::empty(heap);
     let mut list = [Reservation {
         activity: 0,
         ticks: 0,
         period: 0,
     }; 16];
-    load(sheet, &mut plan, &mut list).is_ok()
+    match load(sheet, &mut plan, &mut list) {
+        Ok(_) => Ok(false),
+        Err(fault) => match fault.number() {
+            Some(_) => Ok(true),
+            None => Err(anyhow!("no memory for the plan")),
+        },
+    }
 }
 
-// One byte more than a script may have is enough to tell that it is too long. With no plan nobody waits for a script.
+// One byte more than a script may have is enough to tell that it is too long. Beside a refused sheet nobody waits for a script.
 fn run(rt: &HostRuntime) -> anyhow::Result<()> {
     let sheet = fs::read(rt, "plan.bin")?;
     let mut script = [0u8; MOST_BYTES + 1];
-    let size = if has_plan(rt.alloc(), sheet.as_slice()) {
-        read_input(rt, &mut script)?
-    } else {
+    let size = if is_refused(rt.alloc(), sheet.as_slice())? {
         0
+    } else {
+        read_input(rt, &mut script)?
     };
     let mut output = Output { rt };
     match rehearse(rt.alloc(), sheet.as_slice(), &script[0..size], &mut output) {

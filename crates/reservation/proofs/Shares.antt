@@ -1,6 +1,6 @@
 -- Reservations that are served never ask for more than all ticks: at most one of them owns a tick,
 -- and over a length that every period divides each owns at least its share.
-use Rattle.std.proofs.Common.{◌≡◌, ℕ, zero, suc, ◌+◌, ◌*◌, ◌/◌, ◌<◌, ◌≤◌, Bool, true, false, eqb, ◌⊎◌, List, [], ◌∷◌, length, take, ℤ, pos, ◌+ℤ◌, Some, None, sum_by, Option, sym, refl, ap, ◌∙◌, subst, inl, inr, mul_assoc, suc-mul, mul_comm, add-mul, mul-le-mul_left, mul-pos, zero-mul, mul-add, div-mul-le_self, le_of_mul-le-mul_right, mul_left_comm, arith}
+use Rattle.std.proofs.Common.{◌≡◌, ℕ, zero, suc, ◌+◌, ◌*◌, ◌<◌, ◌≤◌, true, false, ◌⊎◌, List, [], ◌∷◌, length, take, ℤ, pos, ◌+ℤ◌, Some, None, sum_by, Option, sym, refl, ap, ◌∙◌, subst, inl, inr, mul_assoc, suc-mul, mul_comm, add-mul, mul-le-mul_left, mul-pos, zero-mul, mul-add, div-mul-le_self, le_of_mul-le-mul_right, mul_left_comm, arith}
 use native.Mathlib.Nat.{div-le_of_le-mul}
 use Rattle.std.proofs.ByRecursion.{All-from_get_or, All-weaker}
 use Rattle.std.proofs.lemmas.List.{take_all}

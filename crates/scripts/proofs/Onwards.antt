@@ -1,13 +1,13 @@
 -- Calls one after another carry the history on.
-use Rattle.std.proofs.Common.{◌≡◌, ℕ, true, false, cond, eqb, List, [], ◌∷◌, ◌++◌, Some, None, Option, sym, refl, ap, ◌∙◌, subst, append_assoc, arith}
+use Rattle.std.proofs.Common.{◌≡◌, ℕ, eqb, List, [], ◌∷◌, ◌++◌, Some, None, Option, sym, refl, ap, ◌∙◌, subst, append_assoc, arith}
 use Rattle.std.proofs.lemmas.Bool.{eq-eqb, ne_eqb, cond-true, cond-false}
 use Rattle.level.specs.Meaning.{Meaning, Event}
-use Rattle.level.specs.Together.{Opening, Tagged, opened, called, Together, nothing, put, Opens}
+use Rattle.level.specs.Together.{Opening, Tagged, opened, called, Together, nothing, put}
 use Rattle.level.specs.Promises.{AllStand, Goes, Starts}
 use Rattle.level.specs.Levels.{Called}
 use Rattle.level.proofs.Levels.{shared}
 use Rattle.level.proofs.Alones.{step_kept}
-use Rattle.scripts.specs.Plays.{Onward, Plays}
+use Rattle.scripts.specs.Plays.{Plays}
 use Rattle.scripts.specs.Stories.{entry_of, call_on, TicksBoth, Story}
 
 pub still : (m : Meaning) → Plays m m

@@ -1,8 +1,8 @@
 -- A ride is a begin, some calls, and what finishes it.
-use Rattle.std.proofs.Common.{◌≡◌, ℕ, ℤ, sym, refl, ap, ◌∙◌, subst}
+use Rattle.std.proofs.Common.{◌≡◌, ℕ, ℤ, sym, subst}
 use Rattle.level.specs.declared.ticket.Ticket.{Ticket}
 use Rattle.level.specs.declared.refusal.Refusal.{Refusal}
-use Rattle.level.specs.Meaning.{Meaning, to_begin, to_end, began, ended, refused}
+use Rattle.level.specs.Meaning.{Meaning, to_begin, to_end, began, refused}
 use Rattle.level.specs.Steps.{Step}
 use Rattle.scripts.specs.declared.outcome.Outcome.{Outcome}
 use Rattle.scripts.specs.declared.outcome.Outcome.TheVariants.{Ended, Missing, Held}

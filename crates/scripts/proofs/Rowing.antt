@@ -1,13 +1,13 @@
 -- Levels that are each played by itself carry one history on.
-use Rattle.std.proofs.Common.{◌≡◌, ℕ, zero, suc, ◌+◌, ◌<◌, ◌≤◌, List, [], ◌∷◌, ◌++◌, map, length, get_or, set, Some, Option, sym, refl, ap, ◌∙◌, subst, ⊎_elim, append_assoc, arith}
+use Rattle.std.proofs.Common.{◌≡◌, ℕ, zero, suc, ◌+◌, ◌<◌, ◌≤◌, List, [], ◌∷◌, ◌++◌, map, length, get_or, set, Option, sym, refl, ap, ◌∙◌, subst, ⊎_elim, append_assoc, arith}
 use Rattle.std.proofs.lemmas.List.{get_or-set_same, get_or-set_other}
 use Rattle.std.proofs.lemmas.Bool.{cases_eq}
 use Rattle.level.specs.Meaning.{Meaning}
-use Rattle.level.specs.Together.{Tagged, Together}
+use Rattle.level.specs.Together.{Together}
 use Rattle.level.specs.Promises.{AllStand}
 use Rattle.level.proofs.Levels.{shared}
 use Rattle.scripts.specs.Plays.{Plays}
-use Rattle.scripts.specs.Rows.{NoneHas, Apart, Present, EachPlays, RowOnward, RowPlays}
+use Rattle.scripts.specs.Rows.{NoneHas, Present, EachPlays, RowPlays}
 
 present_on : (ms : List Meaning) (k : ℕ) (w v : ℕ → Option Meaning) → ((j : ℕ) → (j ≡ k → ⊥) → v j ≡ w j) → NoneHas k ms → Present ms w → Present ms v
 present_on [] k w v h f p = tt

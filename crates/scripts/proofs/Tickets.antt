@@ -1,5 +1,5 @@
 -- A ticket that was just given out is not refused.
-use Rattle.std.proofs.Common.{◌≡◌, ℕ, ℤ, sym, refl, ap, ◌∙◌, subst}
+use Rattle.std.proofs.Common.{◌≡◌, ℕ, ℤ, sym, refl, ap, ◌∙◌}
 use Rattle.level.specs.declared.ticket.Ticket.{Ticket}
 use Rattle.level.specs.declared.refusal.Refusal.{Refusal}
 use Rattle.level.specs.Meaning.{Meaning, to_end, to_leave, began, collected, refused}

@@ -1,10 +1,10 @@
 -- The steps of reading a heading, and why what is refused is none.
-use Rattle.std.proofs.Common.{◌≡◌, ℕ, ◌+◌, ◌-◌, ◌*◌, ◌<◌, ◌≤◌, ◌≢◌, List, length, get_or, take, drop, set, sym, refl, ap, ◌∙◌, subst, ⊎_elim, arith}
-use Rattle.std.proofs.lemmas.List.{length-set, length-take-le, get_or-take, get_or-drop, get_or-set_same, get_or-set_other, take_rest}
+use Rattle.std.proofs.Common.{◌≡◌, ℕ, ◌+◌, ◌-◌, ◌*◌, ◌<◌, ◌≤◌, ◌≢◌, List, length, take, set, sym, refl, ◌∙◌, subst, ⊎_elim, arith}
+use Rattle.std.proofs.lemmas.List.{length-set, length-take-le, get_or-take, get_or-set_same, get_or-set_other}
 use Rattle.std.proofs.lemmas.Bool.{cases_order}
 use Rattle.reservation.specs.declared.reservation.Reservation.{Reservation}
 use Rattle.reservation.specs.Reservations.{at, blank}
-use Rattle.sheet.specs.Format.{byte, two, Zero, ReservationAt, reservation_place, IsHeading, blocks_for}
+use Rattle.sheet.specs.Format.{byte, two, Zero, ReservationAt, reservation_place, IsHeading}
 use Rattle.sheet.proofs.Bytes.{behind, behind_at}
 use Rattle.sheet.specs.Read.{IsMarked, ListRead}
 use Rattle.sheet.specs.Told.{Headed}

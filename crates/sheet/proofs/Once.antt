@@ -1,5 +1,5 @@
 -- Loading has one answer: what each says of the bytes shuts the others out.
-use Rattle.std.proofs.Common.{◌≡◌, ℕ, ◌+◌, ◌*◌, ◌/◌, ◌^◌, ◌<◌, ◌≤◌, List, length, Some, None, Ok, Err, Option, Result, sym, refl, ap, ◌∙◌, subst, ⊎_elim, arith}
+use Rattle.std.proofs.Common.{◌≡◌, ℕ, ◌*◌, ◌^◌, ◌<◌, List, length, Some, None, Ok, Err, Result, sym, refl, ap, ◌∙◌, subst, ⊎_elim, arith}
 use Rattle.std.proofs.lemmas.List.{ext_get_or}
 use Rattle.std.proofs.lemmas.Bool.{cases_order}
 use Rattle.plan.specs.declared.entry.Entry.{Entry}
@@ -16,7 +16,7 @@ use Rattle.reservation.specs.Told as check
 use Rattle.reservation.proofs.Once as check-once
 use Rattle.sheet.specs.declared.fault.SheetFault.{SheetFault}
 use Rattle.sheet.specs.declared.fault.SheetFault.TheVariants.{Size, BlockCheck, Heading, EntryBlock, Plan, Check}
-use Rattle.sheet.specs.Format.{byte, block, blocks_for, in_block, ReservationAt, reservation_place, EntryAt, entry_place, IsHeading, IsEntryBlock, IsSheet}
+use Rattle.sheet.specs.Format.{block, blocks_for, in_block, ReservationAt, reservation_place, EntryAt, entry_place, IsHeading, IsEntryBlock}
 use Rattle.sheet.specs.Told.{HasBlocks, AllChecked, FirstUnchecked, Headed, AllBlocks, FirstBroken, Holds, Refused, Told, no_memory}
 
 -- two numbers of which neither is below the other

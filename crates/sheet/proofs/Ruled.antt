@@ -1,5 +1,5 @@
 -- What every answer of loading says besides itself: where its place lies, and which faults never come up.
-use Rattle.std.proofs.Common.{◌≡◌, ℕ, ◌+◌, ◌*◌, ◌/◌, ◌%◌, ◌^◌, ◌<◌, ◌≤◌, List, length, Ok, Err, Result, sym, refl, ap, ◌∙◌, subst, arith}
+use Rattle.std.proofs.Common.{ℕ, ◌*◌, ◌^◌, ◌<◌, ◌≤◌, List, length, Ok, Err, Result, subst, arith}
 use Rattle.plan.specs.declared.fault.PlanFault.{PlanFault}
 use Rattle.plan.specs.declared.fault.PlanFault.TheVariants as of-plan
 use Rattle.plan.specs.Owners.{owner_in}
@@ -11,7 +11,7 @@ use Rattle.reservation.proofs.Shares.{never_overbooked}
 use Rattle.sheet.specs.declared.fault.SheetFault.{SheetFault}
 use Rattle.sheet.specs.declared.fault.SheetFault.TheVariants.{Size, BlockCheck, Heading, EntryBlock, Plan, Check}
 use Rattle.sheet.specs.Faults.{plan_place, check_place}
-use Rattle.sheet.specs.Format.{blocks_for, entry_place, reservation_place}
+use Rattle.sheet.specs.Format.{entry_place, reservation_place}
 use Rattle.sheet.specs.Told.{Holds, Told, Within, Never}
 
 -- entries and reservations begin within the sheet

@@ -1,12 +1,11 @@
 -- Why what the reader gives is what the bytes are the sheet of.
-use Rattle.std.proofs.Common.{◌≡◌, ℕ, ◌+◌, ◌*◌, ◌/◌, ◌<◌, ◌≤◌, List, length, take, sym, refl, ap, ◌∙◌, subst, arith}
+use Rattle.std.proofs.Common.{◌≡◌, ℕ, ◌*◌, ◌<◌, ◌≤◌, List, length, take, sym, ap, ◌∙◌, subst, arith}
 use Rattle.std.proofs.lemmas.List.{length-take-le, get_or-take}
 use Rattle.plan.specs.declared.entry.Entry.{Entry}
 use Rattle.plan.specs.Entries.{at, blank}
 use Rattle.reservation.specs.declared.reservation.Reservation.{Reservation}
 use Rattle.sheet.specs.declared.fault.SheetFault.TheVariants.{EntryBlock}
 use Rattle.sheet.specs.declared.heading.HeadingFields.{HeadingFields}
-use Rattle.sheet.specs.declared.load.Contents.{Contents}
 use Rattle.sheet.specs.Format.{block, blocks_for, in_block, entry_place, EntryAt, IsEntryBlock, IsHeading, IsSheet}
 use Rattle.sheet.specs.Read.{HeadingRead, EntriesRead, SheetRead}
 use Rattle.sheet.specs.Told.{HasBlocks, AllChecked, AllBlocks, Headed, FirstBroken, Refused}

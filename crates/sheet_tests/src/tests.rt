@@ -9,7 +9,6 @@ use reservation::reservation::Reservation;
 use sheet::fault::{Layer, SheetFault};
 use sheet::load::load;
 use std::alloc::{AllocError, Global};
-use std::process::Abort;
 use std::test::Fail;
 
 // A list that is full of something else.
@@ -26,9 +25,17 @@ fn example(heap: Global) -> Result<Vec<u8>, AllocError> {
     sheet(heap, 10, 2, &EXAMPLE_ENTRIES, &[reserve(0, 4, 20)])
 }
 
+// Fails a test in which something does not hold.
+fn check(holds: bool) -> Result<(), Fail> {
+    if holds {
+        Ok(())
+    } else {
+        Err(Fail::new("it does not hold"))
+    }
+}
+
 // The bytes are refused with this fault, and plan and list stay as they were.
 fn refused(
-    rt: &impl Abort,
     heap: Global,
     bytes: &[u8],
     fault: SheetFault,
@@ -37,17 +44,15 @@ fn refused(
 ) -> Result<(), Fail> {
     let mut plan = example_plan(heap)?;
     let mut list = full_list();
-    assert_eq!(rt; load(bytes, &mut plan, &mut list), Err(fault));
-    assert!(rt; is_example(&plan));
-    assert_eq!(rt; list, full_list());
-    assert_eq!(rt; fault.number(), Some(number));
-    assert_eq!(rt; fault.place(), place);
-    Ok(())
+    check(load(bytes, &mut plan, &mut list) == Err(fault))?;
+    check(is_example(&plan))?;
+    check(list == full_list())?;
+    check(fault.number() == Some(number))?;
+    check(fault.place() == place)
 }
 
 // The example's sheet with one byte changed is refused.
 fn refused_at(
-    rt: &impl Abort,
     heap: Global,
     at: usize,
     value: u8,
@@ -56,32 +61,28 @@ fn refused_at(
     place: usize,
 ) -> Result<(), Fail> {
     let bytes = changed(heap, example(heap)?.as_slice(), at, value)?;
-    refused(rt, heap, bytes.as_slice(), fault, number, place)
+    refused(heap, bytes.as_slice(), fault, number, place)
 }
 
 // The sheet of these is taken into a plan and a list that held something else.
 fn taken(
-    rt: &impl Abort,
     heap: Global,
     entries: &[Entry],
     reservations: &[Reservation],
     size: usize,
 ) -> Result<(), Fail> {
     let bytes = sheet(heap, 64, 5, entries, reservations)?;
-    assert_eq!(rt; bytes.len(), size);
+    check(bytes.len() == size)?;
     let mut plan = example_plan(heap)?;
     let mut list = full_list();
-    assert_eq!(rt;
-        load(bytes.as_slice(), &mut plan, &mut list),
-        Ok(reservations.len())
-    );
-    assert!(rt; plan.base().ticks == 64 && plan.depth() == 5);
-    assert!(rt; plan.entries() == entries);
+    check(load(bytes.as_slice(), &mut plan, &mut list) == Ok(reservations.len()))?;
+    check(plan.base().ticks == 64 && plan.depth() == 5)?;
+    check(plan.entries() == entries)?;
     for (i, reservation) in list.iter().enumerate() {
         if i < reservations.len() {
-            assert!(rt; *reservation == reservations[i]);
+            check(*reservation == reservations[i])?;
         } else {
-            assert!(rt; *reservation == reserve(0, 0, 0));
+            check(*reservation == reserve(0, 0, 0))?;
         }
     }
     Ok(())
@@ -105,11 +106,11 @@ fn example_is_taken(rt: HostRuntime) -> Result<(), Fail> {
 #[test]
 fn fewest_and_most_entries_are_taken(rt: HostRuntime) -> Result<(), Fail> {
     let heap = rt.alloc();
-    taken(&rt, heap, &[], &[], 512)?;
-    taken(&rt, heap, deep_entries(heap, 1)?.as_slice(), &[], 1024)?;
-    taken(&rt, heap, deep_entries(heap, 60)?.as_slice(), &[], 1024)?;
-    taken(&rt, heap, deep_entries(heap, 61)?.as_slice(), &[], 1536)?;
-    taken(&rt, heap, deep_entries(heap, 120)?.as_slice(), &[], 1536)
+    taken(heap, &[], &[], 512)?;
+    taken(heap, deep_entries(heap, 1)?.as_slice(), &[], 1024)?;
+    taken(heap, deep_entries(heap, 60)?.as_slice(), &[], 1024)?;
+    taken(heap, deep_entries(heap, 61)?.as_slice(), &[], 1536)?;
+    taken(heap, deep_entries(heap, 120)?.as_slice(), &[], 1536)
 }
 
 #[test]
@@ -118,7 +119,6 @@ fn sixteen_reservations_are_taken(rt: HostRuntime) -> Result<(), Fail> {
     let list = all_reservations(heap)?;
     assert_eq!(rt; list.len(), 16);
     taken(
-        &rt,
         heap,
         deep_entries(heap, 120)?.as_slice(),
         list.as_slice(),
@@ -131,24 +131,10 @@ fn size_is_told(rt: HostRuntime) -> Result<(), Fail> {
     let heap = rt.alloc();
     let bytes = example(heap)?;
     assert!(rt; bytes.len() == 1024);
-    refused(&rt, heap, &[], SheetFault::Size, 31, 0)?;
-    refused(
-        &rt,
-        heap,
-        &bytes.as_slice()[0..511],
-        SheetFault::Size,
-        31,
-        0,
-    )?;
-    refused(
-        &rt,
-        heap,
-        &bytes.as_slice()[0..1023],
-        SheetFault::Size,
-        31,
-        0,
-    )?;
-    refused(&rt, heap, &[0; 2048], SheetFault::Size, 31, 0)?;
+    refused(heap, &[], SheetFault::Size, 31, 0)?;
+    refused(heap, &bytes.as_slice()[0..511], SheetFault::Size, 31, 0)?;
+    refused(heap, &bytes.as_slice()[0..1023], SheetFault::Size, 31, 0)?;
+    refused(heap, &[0; 2048], SheetFault::Size, 31, 0)?;
     assert_eq!(rt; SheetFault::Size.layer(), Layer::Sheet);
     Ok(())
 }
@@ -161,54 +147,39 @@ fn wrong_check_is_told(rt: HostRuntime) -> Result<(), Fail> {
     last[1536 - 1] = 1;
     let mut both = last;
     both[512 + 507] = 1;
-    refused(
-        &rt,
-        heap,
-        &both,
-        SheetFault::BlockCheck { block: 1 },
-        32,
-        512,
-    )?;
-    refused(
-        &rt,
-        heap,
-        &last,
-        SheetFault::BlockCheck { block: 2 },
-        32,
-        1024,
-    )?;
-    refused(&rt, heap, &blank, SheetFault::Heading, 33, 0)
+    refused(heap, &both, SheetFault::BlockCheck { block: 1 }, 32, 512)?;
+    refused(heap, &last, SheetFault::BlockCheck { block: 2 }, 32, 1024)?;
+    refused(heap, &blank, SheetFault::Heading, 33, 0)
 }
 
 #[test]
 fn wrong_heading_is_told(rt: HostRuntime) -> Result<(), Fail> {
     let heap = rt.alloc();
-    refused_at(&rt, heap, 0, 2, SheetFault::Heading, 33, 0)?;
-    refused_at(&rt, heap, 1, 1, SheetFault::Heading, 33, 0)?;
-    refused_at(&rt, heap, 5, 17, SheetFault::Heading, 33, 0)?;
-    refused_at(&rt, heap, 6, 0, SheetFault::Heading, 33, 0)?;
-    refused_at(&rt, heap, 6, 61, SheetFault::Heading, 33, 0)?;
-    refused_at(&rt, heap, 7, 1, SheetFault::Heading, 33, 0)?;
-    refused_at(&rt, heap, 9, 1, SheetFault::Heading, 33, 0)?;
-    refused_at(&rt, heap, 14, 1, SheetFault::Heading, 33, 0)?;
-    refused_at(&rt, heap, 507, 1, SheetFault::Heading, 33, 0)
+    refused_at(heap, 0, 2, SheetFault::Heading, 33, 0)?;
+    refused_at(heap, 1, 1, SheetFault::Heading, 33, 0)?;
+    refused_at(heap, 5, 17, SheetFault::Heading, 33, 0)?;
+    refused_at(heap, 6, 0, SheetFault::Heading, 33, 0)?;
+    refused_at(heap, 6, 61, SheetFault::Heading, 33, 0)?;
+    refused_at(heap, 7, 1, SheetFault::Heading, 33, 0)?;
+    refused_at(heap, 9, 1, SheetFault::Heading, 33, 0)?;
+    refused_at(heap, 14, 1, SheetFault::Heading, 33, 0)?;
+    refused_at(heap, 507, 1, SheetFault::Heading, 33, 0)
 }
 
 #[test]
 fn wrong_entry_block_is_told(rt: HostRuntime) -> Result<(), Fail> {
     let heap = rt.alloc();
     let fault = SheetFault::EntryBlock { block: 1 };
-    refused_at(&rt, heap, 512, 1, fault, 34, 512)?;
-    refused_at(&rt, heap, 513, 2, fault, 34, 512)?;
-    refused_at(&rt, heap, 514, 5, fault, 34, 512)?;
-    refused_at(&rt, heap, 515, 1, fault, 34, 512)?;
-    refused_at(&rt, heap, 519, 1, fault, 34, 512)?;
-    refused_at(&rt, heap, 568, 1, fault, 34, 512)?;
-    refused_at(&rt, heap, 1019, 1, fault, 34, 512)?;
+    refused_at(heap, 512, 1, fault, 34, 512)?;
+    refused_at(heap, 513, 2, fault, 34, 512)?;
+    refused_at(heap, 514, 5, fault, 34, 512)?;
+    refused_at(heap, 515, 1, fault, 34, 512)?;
+    refused_at(heap, 519, 1, fault, 34, 512)?;
+    refused_at(heap, 568, 1, fault, 34, 512)?;
+    refused_at(heap, 1019, 1, fault, 34, 512)?;
     let full = sheet(heap, 64, 5, deep_entries(heap, 61)?.as_slice(), &[])?;
     let bytes = changed(heap, full.as_slice(), 1026, 2)?;
     refused(
-        &rt,
         heap,
         bytes.as_slice(),
         SheetFault::EntryBlock { block: 2 },
@@ -220,26 +191,9 @@ fn wrong_entry_block_is_told(rt: HostRuntime) -> Result<(), Fail> {
 #[test]
 fn wrong_plan_is_told(rt: HostRuntime) -> Result<(), Fail> {
     let heap = rt.alloc();
+    refused_at(heap, 3, 1, SheetFault::Plan(PlanFault::Dimensions), 21, 0)?;
+    refused_at(heap, 4, 6, SheetFault::Plan(PlanFault::Dimensions), 21, 0)?;
     refused_at(
-        &rt,
-        heap,
-        3,
-        1,
-        SheetFault::Plan(PlanFault::Dimensions),
-        21,
-        0,
-    )?;
-    refused_at(
-        &rt,
-        heap,
-        4,
-        6,
-        SheetFault::Plan(PlanFault::Dimensions),
-        21,
-        0,
-    )?;
-    refused_at(
-        &rt,
         heap,
         528,
         16,
@@ -251,12 +205,11 @@ fn wrong_plan_is_told(rt: HostRuntime) -> Result<(), Fail> {
         later: 1,
         earlier: 0,
     });
-    refused_at(&rt, heap, 532, 2, clash, 24, 528)?;
+    refused_at(heap, 532, 2, clash, 24, 528)?;
     assert_eq!(rt; clash.layer(), Layer::Plan);
     let full = sheet(heap, 64, 5, deep_entries(heap, 62)?.as_slice(), &[])?;
     let bytes = changed(heap, full.as_slice(), 1041, 6)?;
     refused(
-        &rt,
         heap,
         bytes.as_slice(),
         SheetFault::Plan(PlanFault::OutOfRange { index: 61 }),
@@ -269,7 +222,7 @@ fn wrong_plan_is_told(rt: HostRuntime) -> Result<(), Fail> {
 fn wrong_reservation_is_told(rt: HostRuntime) -> Result<(), Fail> {
     let heap = rt.alloc();
     let outside = SheetFault::Check(CheckFault::OutOfRange { index: 0 });
-    refused_at(&rt, heap, 8, 16, outside, 12, 8)?;
+    refused_at(heap, 8, 16, outside, 12, 8)?;
     assert_eq!(rt; outside.layer(), Layer::Check);
     let twice = sheet(
         heap,
@@ -279,7 +232,6 @@ fn wrong_reservation_is_told(rt: HostRuntime) -> Result<(), Fail> {
         &[reserve(0, 4, 20), reserve(0, 1, 20)],
     )?;
     refused(
-        &rt,
         heap,
         twice.as_slice(),
         SheetFault::Check(CheckFault::Twice { index: 1 }),
@@ -291,7 +243,7 @@ fn wrong_reservation_is_told(rt: HostRuntime) -> Result<(), Fail> {
         start: 5,
         found: 3,
     });
-    refused_at(&rt, heap, 12, 19, short, 14, 8)
+    refused_at(heap, 12, 19, short, 14, 8)
 }
 
 #[test]
@@ -299,7 +251,6 @@ fn plan_is_told_before_the_check(rt: HostRuntime) -> Result<(), Fail> {
     let heap = rt.alloc();
     let bytes = sheet(heap, 10, 2, &[entry(0, 3, 0, 0, 1)], &[reserve(16, 1, 1)])?;
     refused(
-        &rt,
         heap,
         bytes.as_slice(),
         SheetFault::Plan(PlanFault::OutOfRange { index: 0 }),

@@ -1,9 +1,9 @@
 -- Why a queue under a hold of one repeat names 0, 0, 1, 1, 0.
-use Rattle.std.proofs.Common.{◌≡◌, ℕ, ◌+◌, ◌<◌, ◌≤◌, Bool, true, false, cond, ◌&&◌, ltb, List, [], ◌∷◌, ◌++◌, Some, None, MatchBool, Option, sym, refl, ap, ◌∙◌, subst, arith, lit≤}
+use Rattle.std.proofs.Common.{◌≡◌, ℕ, Bool, true, false, ◌&&◌, ltb, List, [], ◌∷◌, Some, None, MatchBool, Option, refl, ap, ◌∙◌, subst, arith, lit≤}
 use Rattle.spare.specs.declared.hold.Hold.{Hold}
 use Rattle.spare.specs.declared.queue.Queue.{Queue}
-use Rattle.spare.specs.Example.{NewHold, TwoReady, HeldQueueStep, NamesInTurn, HeldQueueExample}
-use Rattle.spare.specs.Holds.{HoldStep, Repeats, Asks, Takes, repeating, choice_ready}
+use Rattle.spare.specs.Example.{TwoReady, HeldQueueStep, HeldQueueExample}
+use Rattle.spare.specs.Holds.{Repeats, Asks, Takes, repeating, choice_ready}
 use Rattle.spare.specs.Orders.{QueueStep, first_ready, sent_back, in_order}
 
 -- a step of a hold says what it says of any weaker account of the calls below

@@ -1,15 +1,15 @@
 -- Going round a table from the mark: which place comes when, and what moving the mark does to the distances.
-use Rattle.std.specs.Prelude.{◌≡◌, ℕ, ◌+◌, ◌-◌, ◌%◌, ◌<◌, ◌≤◌, min, Bool, true, false, cond, ◌⊎◌, List, ◌++◌, length, take, drop, Some, None, Option, MatchOption, ◌≢◌, slice_index, slice_index_or, refl}
-use Rattle.std.proofs.Common.{inl, inr, ⊎_elim, sym, ap, subst, ◌∙◌, mod-eq_of_lt, arith}
+use Rattle.std.specs.Prelude.{◌≡◌, ℕ, ◌+◌, ◌-◌, ◌%◌, ◌<◌, ◌≤◌, Bool, true, false, cond, List, length, take, drop, Some, None, Option, MatchOption, ◌≢◌, slice_index, slice_index_or, refl}
+use Rattle.std.proofs.Common.{⊎_elim, sym, ap, ◌∙◌, mod-eq_of_lt, arith}
 use Rattle.std.proofs.Math.Nat.{add-mod_right}
 use Rattle.std.proofs.lemmas.List.{length-take, length-drop, length-append, get_or_append_left, get_or-append_right, get_or-drop, get_or-take, take-append-drop}
 use Rattle.std.proofs.lemmas.Bool.{lt-ltb, le-ltb, cases_lt}
 use Rattle.spare.specs.declared.ready.ReadySet.{ReadySet}
 use Rattle.spare.specs.Chosen.{NamesNobody, Names}
-use Rattle.spare.specs.Orders.{first_ready, passed_over, place_of, times}
+use Rattle.spare.specs.Orders.{place_of, times}
 use Rattle.spare.specs.Search.{NoneIn, FirstAt, passed_to, NextAt}
 use Rattle.spare.specs.Sets.{is_ready}
-use Rattle.spare.specs.Wheels.{Table, after_mark, WheelStep}
+use Rattle.spare.specs.Wheels.{after_mark, WheelStep}
 use Rattle.spare.specs.OrdersLemmas.{at_place, place_le, has_place, times_append, stands_after, none_ready, found_at, found_none}
 use Rattle.spare.specs.SetsLemmas.{member_known, from_below}
 

@@ -1,6 +1,6 @@
 use Rattle.std.proofs.Common.{◌≡◌, ℕ, ◌<◌, ℤ, sym, ◌∙◌, arith, w32, SFits, rules}
 use Rattle.std.proofs.lemmas.Int.{to_z-of_z}
-use Rattle.clock.specs.Floor.{floor_div, floor_mod, Lies}
+use Rattle.clock.specs.Floor.{floor_div, floor_mod}
 use Rattle.clock.proofs.Laws.{lies_once, lies_at}
 use Rattle.clock.proofs.BasePeriod.place.Goals as goal
 

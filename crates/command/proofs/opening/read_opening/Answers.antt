@@ -1,4 +1,4 @@
-use Rattle.std.proofs.Common.{◌≡◌, ℕ, List, sym, refl, subst, inr}
+use Rattle.std.proofs.Common.{ℕ, List, sym, refl, subst, inr}
 use Rattle.command.specs.declared.command.Command.TheVariants.{Open}
 use Rattle.command.specs.Grammar.{Begins}
 use Rattle.command.proofs.opening.read_opening.Goals as goal

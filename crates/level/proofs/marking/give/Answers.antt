@@ -1,4 +1,4 @@
-use Rattle.std.proofs.Common.{◌≡◌, ℕ, ◌≤◌, ℤ, Option, sym, refl, ap, ◌∙◌, subst, arith, w32}
+use Rattle.std.proofs.Common.{ℕ, ◌≤◌, ℤ, Option, refl, arith, w32}
 use Rattle.std.proofs.lemmas.Int.{ints, to_z-of_z}
 use Rattle.level.specs.Board.{holder}
 use Rattle.level.specs.Ticks.{between, is_available}

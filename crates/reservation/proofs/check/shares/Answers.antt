@@ -1,7 +1,7 @@
-use Rattle.std.proofs.Common.{◌≡◌, ℕ, ◌+◌, ◌*◌, ◌/◌, ◌≤◌, sum_by, ap, ◌∙◌, arith}
+use Rattle.std.proofs.Common.{◌≡◌, ◌+◌, ◌*◌, ◌/◌, sum_by, ap, ◌∙◌, arith}
 use Rattle.std.proofs.lemmas.List.{take_all}
 use Rattle.std.proofs.lemmas.List.Sums.{sum_by_more}
-use Rattle.reservation.specs.Reservations.{InRange, share, at, blank}
+use Rattle.reservation.specs.Reservations.{share, at, blank}
 use Rattle.reservation.proofs.Shares.{share_most}
 use Rattle.reservation.proofs.check.shares.Goals as goal
 

@@ -1,5 +1,4 @@
-use Rattle.std.proofs.Common.{◌≡◌, ◌+◌, ◌-◌, ◌<◌, ◌≤◌, [], ◌∷◌, ◌++◌, length, take, drop, set, pos, nat_abs, ◌<ℤ◌, Some, decimal, sym, refl, ap, ◌∙◌, arith, w32, to_z, of_z}
-use borrow.Rule.Slice.PartMut.{put_mid}
+use Rattle.std.proofs.Common.{◌≡◌, ◌+◌, ◌≤◌, [], ◌∷◌, ◌++◌, length, take, drop, set, pos, nat_abs, ◌<ℤ◌, Some, decimal, sym, ap, ◌∙◌, arith, w32, to_z, of_z}
 use Rattle.std.specs.Fmt.{signed_decimal}
 use Rattle.std.proofs.lemmas.Fmt.{length-decimal-le}
 use Rattle.std.proofs.lemmas.List.{length-set, take_more_set, drop-set-lt, take_rest, length-drop}

@@ -1,8 +1,7 @@
-use Rattle.std.proofs.Common.{◌≡◌, ℕ, List, [], ◌∷◌, ◌++◌, ℤ, Option, append_assoc, w32, SFits, to_z, of_z}
+use Rattle.std.proofs.Common.{◌≡◌, ℕ, List, [], ◌∷◌, ◌++◌, ℤ, Option, append_assoc, w32, to_z, of_z}
 use Rattle.std.specs.Fmt.{signed_decimal}
 use Rattle.std.proofs.lemmas.Int.{to_z-of_z}
 use Rattle.level.specs.declared.ticked.Letter.{Letter}
-use Rattle.row.specs.declared.row.Field.{Field}
 use Rattle.row.specs.declared.row.Row.TheVariants.{Ran}
 use Rattle.row.specs.Rows.{field_text, runner_text, letter_byte, row_text}
 use Rattle.row.proofs.row.ran_fields.Goals as goal

@@ -1,4 +1,4 @@
-use Rattle.std.proofs.Common.{◌≡◌, [], length, drop, ap, ◌∙◌, arith}
+use Rattle.std.proofs.Common.{◌≡◌, [], length, drop, ap, arith}
 use Rattle.std.proofs.lemmas.List.{drop_all}
 use Rattle.row.specs.declared.row.Field.TheVariants.{Nothing}
 use Rattle.row.specs.Rows.{fields_text}

@@ -1,6 +1,4 @@
-use Rattle.std.proofs.Common.{◌≡◌, ℕ, ◌+◌, List, [], length, sym, refl, ap, ◌∙◌, arith}
-use Rattle.row.specs.declared.row.Field.{Field}
-use Rattle.row.specs.declared.row.Field.TheVariants.{Nothing}
+use Rattle.std.proofs.Common.{◌≡◌, [], length, sym, ap, ◌∙◌, arith}
 use Rattle.row.specs.Rows.{laid, field_text}
 use Rattle.row.proofs.Laid.{laid_nothing}
 use Rattle.row.proofs.write.put_field.Goals as goal

@@ -1,4 +1,3 @@
-use Rattle.std.proofs.Common.{w32}
 use Rattle.std.proofs.lemmas.Int.{to_z-of_z}
 use Rattle.scripts.proofs.Onwards.{by_call, chain}
 use Rattle.scripts.proofs.Tickets.{left_at_once}

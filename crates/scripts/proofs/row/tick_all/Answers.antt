@@ -1,4 +1,4 @@
-use Rattle.std.proofs.Common.{◌≡◌, ◌<◌, length, set, arith, rules}
+use Rattle.std.proofs.Common.{◌<◌, length, arith, rules}
 use Rattle.level.specs.Levels.{meaning}
 use Rattle.scripts.specs.Rows.{TickedOnce}
 use Rattle.scripts.proofs.Onwards.{by_call}

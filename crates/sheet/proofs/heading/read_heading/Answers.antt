@@ -1,4 +1,4 @@
-use Rattle.std.proofs.Common.{sym, refl, arith}
+use Rattle.std.proofs.Common.{refl, arith}
 use Rattle.sheet.proofs.Headings.{marked_none, unzero_none, heading_made}
 use Rattle.sheet.proofs.heading.read_heading.Goals as goal
 

@@ -1,7 +1,7 @@
-use Rattle.std.proofs.Common.{◌≡◌, ℕ, ◌≤◌, Bool, Option, ap, ◌∙◌, arith}
+use Rattle.std.proofs.Common.{ℕ, Bool, Option, ap, ◌∙◌, arith}
 use Rattle.spare.specs.declared.hold.Hold.{Hold}
 use Rattle.spare.specs.declared.queue.Queue.{Queue}
-use Rattle.spare.specs.Chosen.{Chosen, CallOf}
+use Rattle.spare.specs.Chosen.{CallOf}
 use Rattle.spare.specs.Example.{NewHold, TwoReady, HeldQueueStep}
 use Rattle.spare.specs.Holds.{HoldStep, repeating}
 use Rattle.spare.specs.Orders.{QueueStep, place_of}

@@ -1,7 +1,7 @@
-use Rattle.std.proofs.Common.{◌≤◌, refl, arith, below_more}
+use Rattle.std.proofs.Common.{refl, arith, below_more}
 use Rattle.std.proofs.lemmas.Bool.{both_ways, eqb-true}
 use Rattle.std.proofs.lemmas.Bool.Decides.{nat_tests}
-use Rattle.spare.specs.Orders.{place_of, times}
+use Rattle.spare.specs.Orders.{place_of}
 use Rattle.spare.specs.OrdersLemmas.{stands_there, has_place, at_place}
 use Rattle.spare.proofs.fill.has_all.Goals as goal
 

@@ -1,4 +1,4 @@
-use Rattle.std.proofs.Common.{◌≡◌, ℕ, List, sym, refl, subst}
+use Rattle.std.proofs.Common.{ℕ, List, sym, refl, subst}
 use Rattle.command.specs.Grammar.{Begins}
 use Rattle.command.specs.Reading.{rest}
 use Rattle.command.proofs.Says.{line_there, none_there, read_once}

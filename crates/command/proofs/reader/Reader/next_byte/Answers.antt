@@ -1,5 +1,5 @@
 use Rattle.std.proofs.Common.{◌≡◌, [], drop, sym, refl, arith}
-use Rattle.std.proofs.lemmas.List.{at_drop_more, at_drop_all, drop_all, drop-drop}
+use Rattle.std.proofs.lemmas.List.{at_drop_more, drop_all, drop-drop}
 use Rattle.command.specs.Reading.{first_of}
 use Rattle.command.proofs.reader.Reader.next_byte.Goals as goal
 

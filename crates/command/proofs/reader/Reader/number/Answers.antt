@@ -1,9 +1,9 @@
-use Rattle.std.proofs.Common.{◌≡◌, ℕ, ◌+◌, ◌-◌, ◌<◌, ◌≤◌, Bool, true, false, ◌&&◌, eqb, ltb, List, [], ◌∷◌, length, get_or, take, drop, sym, refl, ap, ◌∙◌, inl, inr, arith, rules}
+use Rattle.std.proofs.Common.{◌≡◌, ◌+◌, ◌-◌, ◌<◌, false, ◌&&◌, eqb, ltb, [], get_or, take, drop, sym, refl, ap, ◌∙◌, arith, rules}
 use Rattle.std.specs.List.{prefix_len}
 use Rattle.std.proofs.lemmas.List.{drop_all, get_or-drop, length-drop, get_or-take, drop-drop, length-take}
 use Rattle.std.proofs.lemmas.List.Sums.{prefix_len-le-length}
 use Rattle.std.proofs.lemmas.Bool.Decides.{nat_tests}
-use Rattle.command.specs.Reading.{is_digit, nat_after}
+use Rattle.command.specs.Reading.{is_digit}
 use Rattle.command.proofs.Passes.{leading_passes}
 use Rattle.command.proofs.reader.Reader.number.Goals as goal
 use Rattle.command.proofs.reader.Reader.number.Goals.{else-all-from-eq48-via-then-all-from-eq48+else-end-from-gt1, else-all-from-eq48-via-else-all-from-eq48}

@@ -1,5 +1,5 @@
-use Rattle.std.proofs.Common.{◌≡◌, ℕ, ◌<◌, ℤ, pos, ◌+ℤ◌, ◌≤ℤ◌, ◌<ℤ◌, sym, refl, ap, ◌∙◌, arith, w32, SFits, to_z, of_z, rules}
-use Rattle.std.proofs.lemmas.Int.{ints, to_z-of_z, by_lt_z}
+use Rattle.std.proofs.Common.{◌≡◌, pos, ◌+ℤ◌, ◌<ℤ◌, arith, w32, SFits, to_z, of_z, rules}
+use Rattle.std.proofs.lemmas.Int.{ints, by_lt_z}
 use Rattle.level.specs.Promises.{is_for}
 use Rattle.level.proofs.Counted.{room, ran_more, used_more}
 use Rattle.level.proofs.inner.Inner.advance.Goals as goal

@@ -1,4 +1,4 @@
-use Rattle.std.proofs.Common.{◌≡◌, ℕ, ◌<◌, ◌≤◌, length, get_or, sym, refl, ap, ◌∙◌, arith, rules}
+use Rattle.std.proofs.Common.{◌≡◌, ◌<◌, length, get_or, arith, rules}
 use Rattle.level.specs.Seats.{no_seat}
 use Rattle.level.proofs.Counted.{ran_set}
 use Rattle.level.proofs.inner.Inner.free_seat.Goals as goal

@@ -1,4 +1,4 @@
-use Rattle.std.proofs.Common.{true, false, sym, refl, ap, ◌∙◌, arith}
+use Rattle.std.proofs.Common.{false, refl, arith}
 use Rattle.spare.specs.Sets.{is_ready}
 use Rattle.level.specs.Meaning.{blocked}
 use Rattle.level.proofs.Refusing.{called, block_sound, block_refused}

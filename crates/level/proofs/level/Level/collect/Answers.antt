@@ -1,4 +1,4 @@
-use Rattle.std.proofs.Common.{◌≡◌, sym, refl, ap, ◌∙◌}
+use Rattle.std.proofs.Common.{refl, ap}
 use Rattle.level.proofs.Refusing.{called, collect_refused}
 use Rattle.level.proofs.Handing.{collects}
 use Rattle.level.proofs.level.Level.collect.Goals as goal

@@ -1,4 +1,4 @@
-use Rattle.std.proofs.Common.{◌≡◌, sym, refl, ap, ◌∙◌}
+use Rattle.std.proofs.Common.{refl}
 use Rattle.level.proofs.Refusing.{called, end_refused}
 use Rattle.level.proofs.Handing.{ends}
 use Rattle.level.proofs.level.Level.end.Goals as goal

@@ -1,4 +1,4 @@
-use Rattle.std.proofs.Common.{◌≡◌, sym, refl, ap, ◌∙◌}
+use Rattle.std.proofs.Common.{refl}
 use Rattle.level.proofs.Refusing.{called, leave_refused}
 use Rattle.level.proofs.Handing.{leaves}
 use Rattle.level.proofs.level.Level.leave.Goals as goal

@@ -1,6 +1,6 @@
-use Rattle.std.proofs.Common.{sym, refl, ap, ◌∙◌, w32}
+use Rattle.std.proofs.Common.{refl, ◌∙◌, w32}
 use Rattle.std.proofs.lemmas.Int.{to_z-of_z}
-use Rattle.level.specs.Together.{Opening, Opens}
+use Rattle.level.specs.Together.{Opens}
 use Rattle.level.specs.Levels.{meaning}
 use Rattle.level.proofs.Levels.{starts}
 use Rattle.level.proofs.Seated.{not_on}

@@ -1,4 +1,4 @@
-use Rattle.std.proofs.Common.{◌≡◌, sym, refl, ap, ◌∙◌, subst, w32, SFits, rules}
+use Rattle.std.proofs.Common.{refl, w32, SFits, rules}
 use Rattle.std.proofs.lemmas.Int.{to_z-of_z}
 use Rattle.level.specs.Meaning.{ticked}
 use Rattle.level.proofs.Refusing.{called, tick_refused}

@@ -1,4 +1,4 @@
-use Rattle.std.proofs.Common.{true, false, sym, refl, ap, ◌∙◌, arith}
+use Rattle.std.proofs.Common.{true, refl, arith}
 use Rattle.spare.specs.Sets.{is_ready}
 use Rattle.level.specs.Meaning.{woke}
 use Rattle.level.proofs.Refusing.{called, wake_sound, wake_refused}

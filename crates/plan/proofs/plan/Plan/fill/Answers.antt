@@ -1,9 +1,8 @@
-use Rattle.std.proofs.Common.{Ok, Err, sym, refl, ap, ◌∙◌, subst}
+use Rattle.std.proofs.Common.{Err, sym, subst}
 use Rattle.std.proofs.lemmas.Result.{err_from_is_err_and}
 use Rattle.clock.specs.declared.BasePeriod.{BasePeriod}
-use Rattle.plan.specs.declared.fault.PlanFault.TheVariants.{Memory}
 use Rattle.plan.specs.Told.{Told}
-use Rattle.plan.proofs.Answered.{told_as, only_told, refused}
+use Rattle.plan.proofs.Answered.{told_as, refused}
 use Rattle.plan.proofs.plan.Plan.fill.Goals as goal
 
 pub returns-in_err-period : goal.returns-in_err-period

@@ -1,4 +1,4 @@
-use Rattle.std.proofs.Common.{◌≡◌, refl, ap}
+use Rattle.std.proofs.Common.{refl, ap}
 use Rattle.level.specs.Levels.{meaning}
 use Rattle.rehearsal.specs.Onwards.{standing}
 use Rattle.rehearsal.specs.Rehearsals.{state}

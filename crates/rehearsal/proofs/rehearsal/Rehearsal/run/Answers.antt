@@ -1,7 +1,7 @@
-use Rattle.std.proofs.Common.{◌≡◌, ℕ, [], refl, arith}
+use Rattle.std.proofs.Common.{[], refl}
 use Rattle.std.proofs.lemmas.Result.{err_from_is_err_and}
 use Rattle.row.specs.Buffers.{waiting}
-use Rattle.rehearsal.specs.declared.rehearsal.Progress.TheVariants.{Told, Silent, Over}
+use Rattle.rehearsal.specs.declared.rehearsal.Progress.TheVariants.{Silent}
 use Rattle.rehearsal.specs.Onwards.{standing}
 use Rattle.rehearsal.proofs.Running.{told_falls, line_falls, begins, goes_silently, tells, breaks, finishes, runs_broken}
 use Rattle.rehearsal.proofs.rehearsal.Rehearsal.run.Goals as goal

@@ -1,4 +1,4 @@
-use Rattle.std.proofs.Common.{[], ◌++◌, sym, refl, ap, ◌∙◌}
+use Rattle.std.proofs.Common.{[], ◌++◌, ap, ◌∙◌}
 use Rattle.row.specs.Buffers.{waiting}
 use Rattle.row.specs.Rows.{row_text}
 use Rattle.row.specs.Sinks.{nothing, more}
