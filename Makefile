@@ -10,7 +10,7 @@ demo: crates/inspect/out/inspect crates/rehearse/out/rehearse
 # rt run proves and builds a program, and then runs it: here it finds no sheet beside it, and says so, which is no matter.
 crates/%: FORCE
 	rm -f $@
-	-cd crates/$(notdir $@) && rt run < /dev/null > out.log 2>&1; mkdir -p out && mv out.log out/run.log
+	cd crates/$(notdir $@) && mkdir -p out && rt run < /dev/null > out/run.log 2>&1 || true
 	test -x $@ || { cat crates/$(notdir $@)/out/run.log; exit 1; }
 
 FORCE:
