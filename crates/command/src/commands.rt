@@ -1,5 +1,5 @@
 // Lines read as commands.
-ghost use Rattle.std.specs.Prelude.{◌≡◌, ℕ, true, is_ok, if◌then◌else◌};
+ghost use Rattle.std.specs.Prelude.{◌≡◌, ℕ, true, false, is_ok, if◌then◌else◌};
 ghost use Rattle.command.specs.Reading.{rest, open_in, open_rest, wake_in, block_in, tick_in, begin_in, begin_rest, end_in, field_rest, fields_in, fields_rest, line_in, line_rest, next_line};
 ghost use Rattle.command.specs.Grammar.{Reads, ReadsNumbered, ReadOnce};
 
@@ -139,6 +139,7 @@ impl Reader<'_> {
     pub fn numbered_command(&mut self) -> Result<(u32, Command), ScriptFault>
         ensures reads { ReadsNumbered (rest self.old) self.old.line result (rest self.new) }
         ensures line { is_ok result ≡ true → self.new.line ≡ next_line self.old.line }
+        ensures stays { is_ok result ≡ false → self.new.line ≡ self.old.line }
         ensures once { ReadOnce }
     {
         let line = self.line;

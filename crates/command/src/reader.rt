@@ -94,7 +94,8 @@ impl<'a> Reader<'a> {
 
     /// Passes over all that is left.
     pub fn skip_all(&mut self)
-        ensures { rest self.new ≡ [] }
+        ensures after { rest self.new ≡ [] }
+        ensures line { self.new.line ≡ self.old.line }
     {
         self.at = self.bytes.len();
     }
