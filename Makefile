@@ -15,7 +15,7 @@ crates/%: FORCE
 
 FORCE:
 
-# The gate: everything proved from nothing, every must-fail edit refused, every program and test run, and the second program
+# The gate: everything proved, every must-fail edit refused, every program and test run, and the second program
 # compared with the proved one.
 test:
 	sh .ci/run

@@ -56,6 +56,16 @@ play() {
     echo "rehearse and the second player agree on $rows rows of $(ls "scripts/$1" | wc -l) $1 scripts"
 }
 
+# Of a refused sheet the rows are told without a look at standard input, which here is a folder and can't be read.
+mkdir "$work/refused"
+cd "$work/refused"
+: > plan.bin
+if ! "$rehearse" < . > rows || [ "$(cat rows)" != "? 0" ]; then
+    echo "rehearse did not tell a refused sheet by itself"
+    exit 1
+fi
+cd "$work"
+
 "$work/second" scripts 1 400 "$work/scripts/random"
 "$work/second" edges 1 "$work/scripts"
 for batch in malformed number clock constraint hold long damaged sheet random; do
