@@ -1,5 +1,7 @@
 -- From what the code does with seats and tickets to the steps of begin, end, leave and collect.
 use Rattle.std.proofs.Common.{◌≡◌, ℕ, ◌<◌, ◌≤◌, Bool, true, false, cond, eqb, length, get_or, set, ℤ, Some, None, Option, sym, refl, ap, ◌∙◌, subst, ⊎_elim}
+use Rattle.timetable.specs.declared.table.Timetable.{Ghosts as Timetables}
+use Rattle.spare.specs.declared.rule.SpareRule.{Ghosts as SpareRules}
 use Rattle.std.proofs.lemmas.Bool.{cond-true, cond-false, eq-eqb, ne_eqb, cases_eq}
 use Rattle.spare.specs.Sets.{is_ready}
 use Rattle.level.specs.declared.board.Board.{Board}
@@ -26,13 +28,13 @@ switched f g a to e o b =
     (λ ne. o b ne ∙ sym (cond-false (eqb b a) to (f b) (ne_eqb b a ne)))
     (cases_eq b a)
 
-module _ {T R : Type 0} (owner : T → ℤ → Option ℕ) (cycle : T → ℕ) (distance : R → ℕ → ℕ) (patience : R → ℕ) where
+module _ {T R : Type 0} (ts : Timetables T) (rs : SpareRules R) where
   -- the level l, with another inner part
   abbrev pub within : Level T R → Inner → Level T R
   within l j = record { timetable = l.timetable; rule = l.rule; inner = j }
 
   beside : (l : Level T R) (j : Inner) → j.number ≡ l.inner.number → j.clock ≡ l.inner.clock → j.ready ≡ l.inner.ready → j.used ≡ l.inner.used →
-      Beside (meaning owner cycle distance patience l) (meaning owner cycle distance patience (within l j))
+      Beside (meaning ts rs l) (meaning ts rs (within l j))
   beside l j en ec er eu = record {
     kept = record { number = en; owner = refl; cycle = refl; patience = refl };
     clock = ec;
@@ -43,7 +45,7 @@ module _ {T R : Type 0} (owner : T → ℤ → Option ℕ) (cycle : T → ℕ) (
 
   hands : (o : Bool) (l : Level T R) (s : ℕ) (j : Inner) → s < 16 → (get_or l.inner.seats s no_seat).in_use ≡ true →
       Reseat l.inner s (handed o (get_or l.inner.seats s no_seat)) j →
-      Handed (meaning owner cycle distance patience l) s o (meaning owner cycle distance patience (within l j))
+      Handed (meaning ts rs l) s o (meaning ts rs (within l j))
   hands o l s j small on e = record {
     beside = beside l j e.number e.clock e.ready e.used;
     was = in_use_held (get_or l.inner.seats s no_seat);
@@ -57,18 +59,18 @@ module _ {T R : Type 0} (owner : T → ℤ → Option ℕ) (cycle : T → ℕ) (
 
   pub leaves : (l : Level T R) (x : Ticket) (j : Inner) → TicketIsOut l.inner x →
       Reseat l.inner x.seat (handed false (get_or l.inner.seats x.seat no_seat)) j →
-      Step (meaning owner cycle distance patience l) (left x) (meaning owner cycle distance patience (within l j))
+      Step (meaning ts rs l) (left x) (meaning ts rs (within l j))
   leaves l x j o e =
       (leave_sound _ x _ o.here (seat_at_lem l.inner.seats x.seat o.known o.held) o.out, hands false l x.seat j o.known o.held e)
 
   pub collects : (l : Level T R) (s : ℕ) (j : Inner) (x : Ticket) → x ≡ record { level = l.inner.number; seat = s } → TicketIsLeft l.inner s →
       Reseat l.inner s (handed true (get_or l.inner.seats s no_seat)) j →
-      Step (meaning owner cycle distance patience l) (collected s x) (meaning owner cycle distance patience (within l j))
+      Step (meaning ts rs l) (collected s x) (meaning ts rs (within l j))
   collects l s j x ex o e =
       (collect_sound _ s _ o.known (seat_at_lem l.inner.seats s o.known o.held) o.here, hands true l s j o.known o.held e, ex)
 
   pub ends : (l : Level T R) (x : Ticket) (j : Inner) (n : ℕ) → TicketIsOut l.inner x → Freed l.inner x.seat n j →
-      Step (meaning owner cycle distance patience l) (ended x n) (meaning owner cycle distance patience (within l j))
+      Step (meaning ts rs l) (ended x n) (meaning ts rs (within l j))
   ends l x j n o e = (
     end_sound _ x _ o.here (seat_at_lem l.inner.seats x.seat o.known o.held) o.out,
     record {
@@ -86,16 +88,16 @@ module _ {T R : Type 0} (owner : T → ℤ → Option ℕ) (cycle : T → ℕ) (
   )
 
   pub begins :
-      (l : Level T R) (s a : ℕ) (t : ℤ) (e : ℕ) (d : ℤ) (b : Board) (j : Inner) (x : Ticket) → Fine (meaning owner cycle distance patience l) s a t e d →
-      e ≤ between (is_available (holder l.inner.board) (owner l.timetable) a) t d →
-      Given l.inner.clock (owner l.timetable) a s t d e (holder l.inner.board) (holder b) →
+      (l : Level T R) (s a : ℕ) (t : ℤ) (e : ℕ) (d : ℤ) (b : Board) (j : Inner) (x : Ticket) → Fine (meaning ts rs l) s a t e d →
+      e ≤ between (is_available (holder l.inner.board) (ts.owner l.timetable) a) t d →
+      Given l.inner.clock (ts.owner l.timetable) a s t d e (holder l.inner.board) (holder b) →
       x ≡ record { level = l.inner.number; seat = s } → s < length l.inner.seats →
       j.number ≡ l.inner.number → j.clock ≡ l.inner.clock → j.ready ≡ l.inner.ready → j.board ≡ b → j.seats ≡ set l.inner.seats s (taken a t d e) → j.used ≡ l.inner.used →
-      Step (meaning owner cycle distance patience l) (began s a t e d x) (meaning owner cycle distance patience (within l j))
+      Step (meaning ts rs l) (began s a t e d x) (meaning ts rs (within l j))
   begins l s a t e d b j x f enough g ex lt en ec er eb es eu =
       let c = l.inner.clock in
       let h = holder l.inner.board in
-      let w = owner l.timetable in (
+      let w = ts.owner l.timetable in (
         fine_sound _ s a t e d f (subst (λ k. e ≤ k) (sym (count_seen c t d h w a f.from f.to f.near)) enough),
         record {
           beside = beside l j en ec er eu;
@@ -115,19 +117,19 @@ module _ {T R : Type 0} (owner : T → ℤ → Option ℕ) (cycle : T → ℕ) (
   reboarded l b = record {
     number = l.inner.number;
     clock = l.inner.clock;
-    owner = owner l.timetable;
-    cycle = cycle l.timetable;
+    owner = ts.owner l.timetable;
+    cycle = ts.cycle l.timetable;
     ready = is_ready l.inner.ready;
     seats = seat_at l.inner.seats;
     marks = seen l.inner.clock (holder b);
     used = λ a. get_or l.inner.used a 0;
-    rule = record { distance = distance l.rule; patience = patience l.rule };
+    rule = record { distance = rs.distance l.rule; patience = rs.patience l.rule };
   }
 
   pub few_step :
-      (l : Level T R) (s a : ℕ) (t : ℤ) (e : ℕ) (d : ℤ) (b : Board) (k : ℕ) → Fine (meaning owner cycle distance patience l) s a t e d → k < e →
-      k ≡ between (is_available (holder l.inner.board) (owner l.timetable) a) t d → b ≡ l.inner.board →
-      Step (meaning owner cycle distance patience l) (refused (to_begin s a t e d) (TooFew k)) (reboarded l b)
+      (l : Level T R) (s a : ℕ) (t : ℤ) (e : ℕ) (d : ℤ) (b : Board) (k : ℕ) → Fine (meaning ts rs l) s a t e d → k < e →
+      k ≡ between (is_available (holder l.inner.board) (ts.owner l.timetable) a) t d → b ≡ l.inner.board →
+      Step (meaning ts rs l) (refused (to_begin s a t e d) (TooFew k)) (reboarded l b)
   few_step l s a t e d b k f lt q eb =
-      let r = fine_few (meaning owner cycle distance patience l) s a t e d f k (q ∙ sym (count_seen l.inner.clock t d (holder l.inner.board) (owner l.timetable) a f.from f.to f.near)) lt in
+      let r = fine_few (meaning ts rs l) s a t e d f k (q ∙ sym (count_seen l.inner.clock t d (holder l.inner.board) (ts.owner l.timetable) a f.from f.to f.near)) lt in
       record { wrong = r.wrong; least = r.least; same = ap (reboarded l) eb }

@@ -1,5 +1,7 @@
 -- From what the code does at a tick to the step of a tick.
 use Rattle.std.proofs.Common.{◌≡◌, ℕ, ◌+◌, ◌<◌, true, false, cond, ltb, get_or, ℤ, pos, ◌+ℤ◌, Some, None, Option, sym, refl, ap, ◌∙◌, subst}
+use Rattle.timetable.specs.declared.table.Timetable.{Ghosts as Timetables}
+use Rattle.spare.specs.declared.rule.SpareRule.{Ghosts as SpareRules}
 use mathlib.Core.Path.{fun_ext}
 use Rattle.std.proofs.lemmas.Bool.{eq-eqb, ne_eqb, cond-true, cond-false}
 use Rattle.spare.specs.Chosen.{Chosen, Within}
@@ -20,10 +22,10 @@ use Rattle.level.proofs.Refusing.{tick_sound}
 use Rattle.level.proofs.Seated.{in_use_held, seat_at_lem, more_at}
 use Rattle.level.proofs.Seen.{seen_here, seen_spent, seen_others}
 
-module _ {T R : Type 0} (owner : T → ℤ → Option ℕ) (cycle : T → ℕ) (distance : R → ℕ → ℕ) (patience : R → ℕ) where
+module _ {T R : Type 0} (ts : Timetables T) (rs : SpareRules R) where
   pub by_mark :
       (l : Level T R) (s a : ℕ) → holder l.inner.board l.inner.clock ≡ Some s → RunnerOf l.inner s (Some a) →
-      ByMark (meaning owner cycle distance patience l) s a × (s < 16)
+      ByMark (meaning ts rs l) s a × (s < 16)
   by_mark l s a mark r = (
     record {
       mark = seen_here (holder l.inner.board) l.inner.clock ∙ mark;
@@ -68,13 +70,13 @@ module _ {T R : Type 0} (owner : T → ℤ → Option ℕ) (cycle : T → ℕ) (
 
   pub ticks :
       (l k : Level T R) (j : Inner) (o : Option ℕ) (t : Letter) (u : ℤ) → u ≡ l.inner.clock → (l.inner.clock ≡ pos 2147483647 → ⊥) →
-      GivenTo (meaning owner cycle distance patience l) t o (meaning owner cycle distance patience k) → k.timetable ≡ l.timetable → k.inner ≡ l.inner →
+      GivenTo (meaning ts rs l) t o (meaning ts rs k) → k.timetable ≡ l.timetable → k.inner ≡ l.inner →
       Advanced k.inner o t j →
-      Step (meaning owner cycle distance patience l) (ticked (record { tick = u; runner = o; letter = t })) (meaning owner cycle distance patience (record { timetable = k.timetable; rule = k.rule; inner = j }))
+      Step (meaning ts rs l) (ticked (record { tick = u; runner = o; letter = t })) (meaning ts rs (record { timetable = k.timetable; rule = k.rule; inner = j }))
   ticks l k j o t u eu ne given et ei a = (
     tick_sound _ ne,
     record {
-      kept = record { number = a.number ∙ ap (λ i. i.number) ei; owner = ap owner et; cycle = ap cycle et; patience = given_patience t o _ _ given };
+      kept = record { number = a.number ∙ ap (λ i. i.number) ei; owner = ap ts.owner et; cycle = ap ts.cycle et; patience = given_patience t o _ _ given };
       tick = eu;
       clock = next;
       ready = ap is_ready (a.ready ∙ ap (λ i. i.ready) ei);

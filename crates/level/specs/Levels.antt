@@ -1,5 +1,7 @@
 -- What the code's level means, which events its calls are, and what their contracts say.
 use Rattle.std.specs.Prelude.{◌≡◌, ℕ, Bool, cond, not, ◌&&◌, List, ℤ, pos, ◌+ℤ◌, Some, None, Ok, Err, Option, Result, int_lt, nat_lt, slice_index, slice_index_or}
+use Rattle.timetable.specs.declared.table.Timetable.{Ghosts as Timetables}
+use Rattle.spare.specs.declared.rule.SpareRule.{Ghosts as SpareRules}
 use Rattle.spare.specs.Sets.{is_ready}
 use Rattle.level.specs.declared.seat.Seat.{Seat}
 use Rattle.level.specs.declared.level.Level.{Level}
@@ -12,7 +14,7 @@ use Rattle.level.specs.Board.{holder}
 use Rattle.level.specs.Seats.{no_seat}
 use Rattle.level.specs.Meaning.{Constraint, Meaning, to_wake, to_block, to_begin, to_end, to_leave, to_collect, to_used, to_tick, Event, woke, blocked, began, ended, left, collected, told, ticked, refused}
 use Rattle.level.specs.Steps.{Step, Only}
-use Rattle.level.specs.Together.{Opens}
+use Rattle.level.specs.Together.{Opening, Opens}
 use Rattle.level.specs.Promises.{Goes, Starts}
 
 -- What a level of the code means.
@@ -29,25 +31,35 @@ seat_at xs s = cond (nat_lt s 16) (held_of (slice_index_or xs s no_seat)) None
 abbrev pub seen : ℤ → (ℤ → Option ℕ) → ℤ → Option ℕ
 seen c f t = cond (not (int_lt t c) && int_lt t (c +ℤ pos 1024)) (f t) None
 
-abbrev pub meaning : {T R : Type 0} → (T → ℤ → Option ℕ) → (T → ℕ) → (R → ℕ → ℕ) → (R → ℕ) → Level T R → Meaning
-meaning owner cycle distance patience l = record {
+-- `ts` is what timetables of the type T mean, and `rs` what spare rules of the type R mean
+abbrev pub meaning : {T R : Type 0} → Timetables T → SpareRules R → Level T R → Meaning
+meaning ts rs l = record {
   number = l.inner.number;
   clock = l.inner.clock;
-  owner = owner l.timetable;
-  cycle = cycle l.timetable;
+  owner = ts.owner l.timetable;
+  cycle = ts.cycle l.timetable;
   ready = is_ready l.inner.ready;
   seats = seat_at l.inner.seats;
   marks = seen l.inner.clock (holder l.inner.board);
   used = λ a. slice_index l.inner.used a;
-  rule = record { distance = distance l.rule; patience = patience l.rule };
+  rule = record { distance = rs.distance l.rule; patience = rs.patience l.rule };
+}
+
+-- what a level is opened with
+abbrev pub opening : {T R : Type 0} → Timetables T → SpareRules R → ℤ → T → R → Opening
+opening ts rs clock timetable rule = record {
+  clock = clock;
+  owner = ts.owner timetable;
+  cycle = ts.cycle timetable;
+  rule = record { distance = rs.distance rule; patience = rs.patience rule };
 }
 
 -- What the contracts say.
 
 -- of opening: the level is as it should be, and the history of all levels goes on with it
-pub record Opened (number : ℕ) (clock : ℤ) (owner : ℤ → Option ℕ) (cycle : ℕ) (distance : ℕ → ℕ) (patience : ℕ) (m : Meaning) : Type 0 where
-  pub opens : Opens number (record { clock = clock; owner = owner; cycle = cycle; rule = record { distance = distance; patience = patience } }) m
-  pub starts : Starts number (record { clock = clock; owner = owner; cycle = cycle; rule = record { distance = distance; patience = patience } }) m
+pub record Opened (number : ℕ) (o : Opening) (m : Meaning) : Type 0 where
+  pub opens : Opens number o m
+  pub starts : Starts number o m
 
 -- of each call: what it does, that it has no other answer and leaves no other level, and that the history of all levels goes on with it, every level keeping all promises
 pub record Called (m : Meaning) (e : Event) (n : Meaning) : Type 0 where
@@ -56,8 +68,8 @@ pub record Called (m : Meaning) (e : Event) (n : Meaning) : Type 0 where
   pub goes : Goes m e n
 
 -- of each call but a tick, also that timetable and rule are untouched
-pub record Calls {T R : Type 0} (owner : T → ℤ → Option ℕ) (cycle : T → ℕ) (distance : R → ℕ → ℕ) (patience : R → ℕ) (l : Level T R) (e : Event) (k : Level T R) : Type 0 where
-  pub called : Called (meaning owner cycle distance patience l) e (meaning owner cycle distance patience k)
+pub record Calls {T R : Type 0} (ts : Timetables T) (rs : SpareRules R) (l : Level T R) (e : Event) (k : Level T R) : Type 0 where
+  pub called : Called (meaning ts rs l) e (meaning ts rs k)
   pub timetable : k.timetable ≡ l.timetable
   pub rule : k.rule ≡ l.rule
 

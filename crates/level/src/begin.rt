@@ -20,7 +20,7 @@ impl<T: Timetable, R: SpareRule> Level<T, R> {
         estimate: u16,
         deadline: i32,
     ) -> Option<Refusal>
-        ensures { Fault (meaning T.Timetable.owner T.Timetable.cycle R.SpareRule.distance R.SpareRule.patience self.now) seat activity start estimate deadline result }
+        ensures { Fault (meaning T.Timetable R.SpareRule self.now) seat activity start estimate deadline result }
     {
         if activity > 15 {
             return Some(Refusal::UnknownActivity);
@@ -57,7 +57,7 @@ impl<T: Timetable, R: SpareRule> Level<T, R> {
         estimate: u16,
         deadline: i32,
     ) -> Result<Ticket, Refusal>
-        ensures { Calls T.Timetable.owner T.Timetable.cycle R.SpareRule.distance R.SpareRule.patience self.old (begin_event seat activity start estimate deadline result) self.new }
+        ensures { Calls T.Timetable R.SpareRule self.old (begin_event seat activity start estimate deadline result) self.new }
     {
         if let Some(refusal) = self.begin_fault(seat, activity, start, estimate, deadline) {
             return Err(refusal);

@@ -11,7 +11,7 @@ use timetable::table::Timetable;
 impl<T: Timetable, R: SpareRule> Level<T, R> {
     /// Gives back the ticket that was left at the seat.
     pub fn collect(&mut self, seat: u16) -> Result<Ticket, Refusal>
-        ensures { Calls T.Timetable.owner T.Timetable.cycle R.SpareRule.distance R.SpareRule.patience self.old (collect_event seat result) self.new }
+        ensures { Calls T.Timetable R.SpareRule self.old (collect_event seat result) self.new }
     {
         if !self.inner.has_left(seat) {
             return Err(Refusal::NoTicketLeft);

@@ -1,6 +1,6 @@
 // Whom the tick at the clock goes to.
 ghost use Rattle.std.specs.Prelude.{◌≡◌, ℕ, ℤ};
-ghost use Rattle.spare.specs.Chosen.{CallOf};
+ghost use Rattle.spare.specs.Asking.{CallOf};
 ghost use Rattle.spare.specs.Sets.{is_ready};
 ghost use Rattle.level.specs.Levels.{meaning, Asked};
 ghost use Rattle.level.specs.Parts.{RunnerOf, DueIn, SpareIn, GivenTo, Small};
@@ -41,7 +41,7 @@ impl Inner {
 
 impl<T: Timetable, R: SpareRule> Level<T, R> {
     fn due(&self) -> Due
-        ensures { DueIn (meaning T.Timetable.owner T.Timetable.cycle R.SpareRule.distance R.SpareRule.patience self.now) result }
+        ensures { DueIn (meaning T.Timetable R.SpareRule self.now) result }
     {
         let t = self.inner.clock;
         match self.inner.board.holder_at(t) {
@@ -64,8 +64,8 @@ impl<T: Timetable, R: SpareRule> Level<T, R> {
 
     // Asks the rule, if anybody is ready.
     fn ask(&mut self) -> (Option<u8>, Letter)
-        ensures given { SpareIn (meaning T.Timetable.owner T.Timetable.cycle R.SpareRule.distance R.SpareRule.patience self.old) result.1 result.0 (meaning T.Timetable.owner T.Timetable.cycle R.SpareRule.distance R.SpareRule.patience self.new) }
-        ensures asked { Asked (CallOf R.SpareRule.distance R.SpareRule.patience R.SpareRule.step) (is_ready self.old.inner.ready) self.old.rule result.1 result.0 self.new.rule }
+        ensures given { SpareIn (meaning T.Timetable R.SpareRule self.old) result.1 result.0 (meaning T.Timetable R.SpareRule self.new) }
+        ensures asked { Asked (CallOf R.SpareRule) (is_ready self.old.inner.ready) self.old.rule result.1 result.0 self.new.rule }
         ensures timetable { self.new.timetable ≡ self.old.timetable }
         ensures inner { self.new.inner ≡ self.old.inner }
         ensures small { Small result.0 result.1 }
@@ -78,8 +78,8 @@ impl<T: Timetable, R: SpareRule> Level<T, R> {
 
     // Gives the tick at the clock to somebody, or to nobody.
     pub(crate) fn give_tick(&mut self) -> (Option<u8>, Letter)
-        ensures given { GivenTo (meaning T.Timetable.owner T.Timetable.cycle R.SpareRule.distance R.SpareRule.patience self.old) result.1 result.0 (meaning T.Timetable.owner T.Timetable.cycle R.SpareRule.distance R.SpareRule.patience self.new) }
-        ensures asked { Asked (CallOf R.SpareRule.distance R.SpareRule.patience R.SpareRule.step) (is_ready self.old.inner.ready) self.old.rule result.1 result.0 self.new.rule }
+        ensures given { GivenTo (meaning T.Timetable R.SpareRule self.old) result.1 result.0 (meaning T.Timetable R.SpareRule self.new) }
+        ensures asked { Asked (CallOf R.SpareRule) (is_ready self.old.inner.ready) self.old.rule result.1 result.0 self.new.rule }
         ensures timetable { self.new.timetable ≡ self.old.timetable }
         ensures inner { self.new.inner ≡ self.old.inner }
         ensures small { Small result.0 result.1 }

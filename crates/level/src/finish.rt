@@ -12,7 +12,7 @@ impl<T: Timetable, R: SpareRule> Level<T, R> {
     /// Ends the constraint: its marks still to come go, its seat is free again, and the ticks that it has run are returned.
     /// A refusal hands the ticket back.
     pub fn end(&mut self, ticket: Ticket) -> Result<u32, (Refusal, Ticket)>
-        ensures called { Calls T.Timetable.owner T.Timetable.cycle R.SpareRule.distance R.SpareRule.patience self.old (end_event ticket result) self.new }
+        ensures called { Calls T.Timetable R.SpareRule self.old (end_event ticket result) self.new }
         ensures back { TicketBack ticket result }
     {
         if !self.inner.accepts(&ticket) {
@@ -24,7 +24,7 @@ impl<T: Timetable, R: SpareRule> Level<T, R> {
 
     /// Leaves the ticket with the level; the constraint goes on, and `collect` gives the ticket back. A refusal hands it back at once.
     pub fn leave(&mut self, ticket: Ticket) -> Result<(), (Refusal, Ticket)>
-        ensures called { Calls T.Timetable.owner T.Timetable.cycle R.SpareRule.distance R.SpareRule.patience self.old (leave_event ticket result) self.new }
+        ensures called { Calls T.Timetable R.SpareRule self.old (leave_event ticket result) self.new }
         ensures back { TicketBack ticket result }
     {
         if !self.inner.accepts(&ticket) {

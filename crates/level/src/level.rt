@@ -1,6 +1,6 @@
 // A level, and its opening.
 ghost use Rattle.std.specs.Prelude.{◌≡◌, ℕ, ℤ};
-ghost use Rattle.level.specs.Levels.{meaning, Opened};
+ghost use Rattle.level.specs.Levels.{meaning, opening, Opened};
 
 use crate::inner::Inner;
 use spare::rule::SpareRule;
@@ -17,7 +17,7 @@ pub struct Level<T: Timetable, R: SpareRule> {
 impl<T: Timetable, R: SpareRule> Level<T, R> {
     /// Opens a level: all activities are blocked, and all seats unused. It never refuses.
     pub fn open(number: u32, clock: i32, timetable: T, rule: R) -> Level<T, R>
-        ensures opened { Opened number clock (T.Timetable.owner timetable) (T.Timetable.cycle timetable) (R.SpareRule.distance rule) (R.SpareRule.patience rule) (meaning T.Timetable.owner T.Timetable.cycle R.SpareRule.distance R.SpareRule.patience result) }
+        ensures opened { Opened number (opening T.Timetable R.SpareRule clock timetable rule) (meaning T.Timetable R.SpareRule result) }
         ensures timetable { result.timetable ≡ timetable }
         ensures rule { result.rule ≡ rule }
     {

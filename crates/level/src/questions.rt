@@ -11,7 +11,7 @@ use timetable::table::Timetable;
 impl<T: Timetable, R: SpareRule> Level<T, R> {
     /// How many ticks the activity has run.
     pub fn used(&self, activity: u16) -> Result<u32, Refusal>
-        ensures { Calls T.Timetable.owner T.Timetable.cycle R.SpareRule.distance R.SpareRule.patience self.now (used_event activity result) self.now }
+        ensures { Calls T.Timetable R.SpareRule self.now (used_event activity result) self.now }
     {
         if activity > 15 {
             return Err(Refusal::UnknownActivity);
@@ -21,21 +21,21 @@ impl<T: Timetable, R: SpareRule> Level<T, R> {
 
     /// The number that the level was opened under.
     pub fn number(&self) -> u32
-        ensures { result ≡ (meaning T.Timetable.owner T.Timetable.cycle R.SpareRule.distance R.SpareRule.patience self.now).number }
+        ensures { result ≡ (meaning T.Timetable R.SpareRule self.now).number }
     {
         self.inner.number
     }
 
     /// The next tick to run.
     pub fn clock(&self) -> i32
-        ensures { result ≡ (meaning T.Timetable.owner T.Timetable.cycle R.SpareRule.distance R.SpareRule.patience self.now).clock }
+        ensures { result ≡ (meaning T.Timetable R.SpareRule self.now).clock }
     {
         self.inner.clock
     }
 
     /// Whether the activity is ready; one above 15 never is.
     pub fn is_ready(&self, activity: u16) -> bool
-        ensures { result ≡ (meaning T.Timetable.owner T.Timetable.cycle R.SpareRule.distance R.SpareRule.patience self.now).ready activity }
+        ensures { result ≡ (meaning T.Timetable R.SpareRule self.now).ready activity }
     {
         if activity > 15 {
             return false;
@@ -45,7 +45,7 @@ impl<T: Timetable, R: SpareRule> Level<T, R> {
 
     /// What the seat holds, if it is in use; one above 15 never is.
     pub fn seat(&self, seat: u16) -> Option<Constraint>
-        ensures { result ≡ (meaning T.Timetable.owner T.Timetable.cycle R.SpareRule.distance R.SpareRule.patience self.now).seats seat }
+        ensures { result ≡ (meaning T.Timetable R.SpareRule self.now).seats seat }
     {
         if seat > 15 {
             return None;
@@ -66,7 +66,7 @@ impl<T: Timetable, R: SpareRule> Level<T, R> {
 
     /// The seat that the tick is marked for, if the mark is still to come.
     pub fn marked_for(&self, t: i32) -> Option<u8>
-        ensures { result ≡ (meaning T.Timetable.owner T.Timetable.cycle R.SpareRule.distance R.SpareRule.patience self.now).marks t }
+        ensures { result ≡ (meaning T.Timetable R.SpareRule self.now).marks t }
     {
         let ahead = i64::from(t) - i64::from(self.clock());
         if ahead < 0 {

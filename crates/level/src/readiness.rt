@@ -10,7 +10,7 @@ use timetable::table::Timetable;
 impl<T: Timetable, R: SpareRule> Level<T, R> {
     /// The activity is ready from now on. Waking one that is ready already is allowed.
     pub fn wake(&mut self, activity: u16) -> Result<(), Refusal>
-        ensures { Calls T.Timetable.owner T.Timetable.cycle R.SpareRule.distance R.SpareRule.patience self.old (wake_event activity result) self.new }
+        ensures { Calls T.Timetable R.SpareRule self.old (wake_event activity result) self.new }
     {
         if activity > 15 {
             return Err(Refusal::UnknownActivity);
@@ -21,7 +21,7 @@ impl<T: Timetable, R: SpareRule> Level<T, R> {
 
     /// The activity is blocked from now on. Blocking one that is blocked already is allowed.
     pub fn block(&mut self, activity: u16) -> Result<(), Refusal>
-        ensures { Calls T.Timetable.owner T.Timetable.cycle R.SpareRule.distance R.SpareRule.patience self.old (block_event activity result) self.new }
+        ensures { Calls T.Timetable R.SpareRule self.old (block_event activity result) self.new }
     {
         if activity > 15 {
             return Err(Refusal::UnknownActivity);

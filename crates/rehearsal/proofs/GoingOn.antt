@@ -1,5 +1,6 @@
 -- The same with the spare rule itself followed.
 use Rattle.std.proofs.Common.{◌≡◌, ℕ, Bool, List, [], Some, None, Option, sym, ap, ◌∙◌, subst, inl, inr, arith}
+use Rattle.spare.specs.declared.rule.SpareRule.{Ghosts as SpareRules}
 use Rattle.command.specs.declared.command.Command.{Command}
 use Rattle.command.specs.declared.command.Command.TheVariants.{Open, Wake, Block, Tick, Begin, End}
 use Rattle.command.specs.Grammar.{Begins, ReadOnce}
@@ -19,21 +20,21 @@ pub record LineReadOn {R : Type 0} (s : Standing R) (k : ℕ) (c : Command) (m :
   pub line : m.line ≡ next_line s.line
   pub on : m.on ≡ s.on
 
-module _ {R : Type 0} (distance : R → ℕ → ℕ) (patience : R → ℕ) (step : R → (ℕ → Bool) → Option ℕ → R → Type 0) (s m u : Standing R) (k : ℕ) where
-  as_next : (row : Option Row) → RunsLine distance patience step s (rows_in row) u → RunsNext distance patience step s row u
+module _ {R : Type 0} (rs : SpareRules R) (s m u : Standing R) (k : ℕ) where
+  as_next : (row : Option Row) → RunsLine rs s (rows_in row) u → RunsNext rs s row u
   as_next None p = p
   as_next (Some w) p = inl p
 
-  played : (c : Command) (row : Option Row) → LineReadOn s k c m → CommandPlayed distance patience step m c (rows_in row) u → RunsNext distance patience step s row u
+  played : (c : Command) (row : Option Row) → LineReadOn s k c m → CommandPlayed rs m c (rows_in row) u → RunsNext rs s row u
   played c row r p = as_next row (record {
     due = r.due;
     command = c;
     says = subst (λ (ys : List ℕ). Begins s.text c ys) (sym p.text) r.says;
     line = p.line ∙ r.line;
-    follows = subst (λ (l : Stage R). RunsCommand distance patience step l c (rows_in row) u.on u.ticks) r.on p.follows;
+    follows = subst (λ (l : Stage R). RunsCommand rs l c (rows_in row) u.on u.ticks) r.on p.follows;
   })
 
-  pub line_goes_on : (c : Command) (row : Option Row) → LineReadOn s k c m → ReadOnce → LineGoes distance patience step m k c (rows_in row) u → RunsNext distance patience step s row u
+  pub line_goes_on : (c : Command) (row : Option Row) → LineReadOn s k c m → ReadOnce → LineGoes rs m k c (rows_in row) u → RunsNext rs s row u
   line_goes_on (Open t r) None l once f = let z : ◌≡◌ {A = ℕ} 0 1 = cc f.told in absurd (omega arith)
   line_goes_on (Open t r) (Some w) l once f = inr (record {
     due = l.due;

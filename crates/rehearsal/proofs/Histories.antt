@@ -1,5 +1,6 @@
 -- The calls of a rehearsal are a history of its level, of which all promises hold.
 use Rattle.std.proofs.Common.{◌≡◌, ℕ, Bool, List, [], ◌∷◌, ◌++◌, ℤ, Some, None, Option, sym, refl, ap, ◌∙◌, subst, append_assoc, append-nil}
+use Rattle.spare.specs.declared.rule.SpareRule.{Ghosts as SpareRules}
 use Rattle.level.specs.Meaning.{Meaning, Event}
 use Rattle.level.specs.Together.{Entry, Tagged, Together, nothing, called, own_history, put}
 use Rattle.level.specs.Promises.{Stands, AllStand}
@@ -16,7 +17,7 @@ record Led (m : Meaning) (calls : List Event) : Type 0 where
   pub stands : Stands 0 (own_history 0 all) m
   pub calls_are : calls_in (own_history 0 all) ≡ calls
 
-led_first : {clock : ℤ} {owner : ℤ → Option ℕ} {cycle : ℕ} {distance : ℕ → ℕ} {patience : ℕ} {m : Meaning} → Opened 0 clock owner cycle distance patience m → Led m []
+led_first : {clock : ℤ} {owner : ℤ → Option ℕ} {cycle : ℕ} {distance : ℕ → ℕ} {patience : ℕ} {m : Meaning} → Opened 0 clock ts rs m → Led m []
 led_first {clock} {owner} {cycle} {distance} {patience} {m} o =
     let s = o.starts [] (λ k. None) nothing refl in
     record { all = _; levels = _; together = s.0; here = refl; stands = s.1 0 m refl; calls_are = refl }
@@ -33,12 +34,12 @@ led_next {m} {n} {e} {calls} l c =
 regrouped : {n : Meaning} (calls : List Event) (e : Event) (es : List Event) → Led n ((calls ++ (e ∷ [])) ++ es) → Led n (calls ++ (e ∷ es))
 regrouped {n} calls e es l = subst (λ (z : List Event). Led n z) (append_assoc calls (e ∷ []) es) l
 
-module _ {R : Type 0} {distance : R → ℕ → ℕ} {patience : R → ℕ} {step : R → (ℕ → Bool) → Option ℕ → R → Type 0} where
-  led_on : {p : Stage R} {es : List Event} {q : Stage R} {calls : List Event} → Through distance patience step p es q → Led p.level calls → Led q.level (calls ++ es)
+module _ {R : Type 0} {rs : SpareRules R} where
+  led_on : {p : Stage R} {es : List Event} {q : Stage R} {calls : List Event} → Through rs p es q → Led p.level calls → Led q.level (calls ++ es)
   led_on {p} {es} {q} {calls} no_more l = subst (λ (z : List Event). Led p.level z) (sym (append-nil calls)) l
   led_on {calls = calls} (call_then {e = e} p' {es = es} c t) l = regrouped calls e es (led_on t (led_next l c.called))
 
   -- the history of the calls from an opening
   pub history_of : {p q : Stage R} {es : List Event} {clock : ℤ} {owner : ℤ → Option ℕ} {cycle : ℕ} {far : ℕ → ℕ} {most : ℕ} →
-      Opened 0 clock owner cycle far most p.level → Through distance patience step p es q → (history : List Entry) × (calls_in history ≡ es) × Stands 0 history q.level
+      Opened 0 clock owner cycle far most p.level → Through rs p es q → (history : List Entry) × (calls_in history ≡ es) × Stands 0 history q.level
   history_of o t = let l = led_on t (led_first o) in (own_history 0 l.all, l.calls_are, l.stands)

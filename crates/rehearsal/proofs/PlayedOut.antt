@@ -1,5 +1,6 @@
 -- Calls that go on until nothing is left have played all that the script says.
 use Rattle.std.proofs.Common.{◌≡◌, ℕ, suc, ◌-◌, ◌<◌, Bool, List, [], ◌∷◌, ◌++◌, length, Ok, Err, Option, Result, sym, refl, ap, ◌∙◌, subst, inl, inr, append_assoc, append-nil, arith}
+use Rattle.spare.specs.declared.rule.SpareRule.{Ghosts as SpareRules}
 use Rattle.std.proofs.lemmas.List.{length-append}
 use Rattle.level.specs.declared.ticked.Ticked.{Ticked}
 use Rattle.level.specs.declared.refusal.Refusal.{Refusal}
@@ -42,13 +43,13 @@ first_row : (text : List ℕ) (k : ℕ) → (text ≡ [] → ⊥) → malformed_
 first_row [] k h = absurd (h refl)
 first_row (b ∷ bs) k h = refl
 
-module _ {R : Type 0} (distance : R → ℕ → ℕ) (patience : R → ℕ) (step : R → (ℕ → Bool) → Option ℕ → R → Type 0) where
-  through_then : {p : Stage R} {es : List Event} {q : Stage R} {fs : List Event} {r : Stage R} → Through distance patience step p es q → Through distance patience step q fs r → Through distance patience step p (es ++ fs) r
+module _ {R : Type 0} (rs : SpareRules R) where
+  through_then : {p : Stage R} {es : List Event} {q : Stage R} {fs : List Event} {r : Stage R} → Through rs p es q → Through rs q fs r → Through rs p (es ++ fs) r
   through_then no_more b = b
   through_then (call_then p' c a) b = call_then p' c (through_then a b)
 
   -- nothing is left
-  nothing_left : (s : Standing R) → s.ticks ≡ 0 → s.text ≡ [] → PlaysOut distance patience step s [] s.on
+  nothing_left : (s : Standing R) → s.ticks ≡ 0 → s.text ≡ [] → PlaysOut rs s [] s.on
   nothing_left s k t = record {
     due = [];
     ticks = subst (λ (n : ℕ). TicksOf n []) (sym k) all_run;
@@ -63,8 +64,8 @@ module _ {R : Type 0} (distance : R → ℕ → ℕ) (patience : R → ℕ) (ste
 
   -- a tick of the line before comes first
   tick_first : (s u : Standing R) (row : Row) (rows : List Row) (last : Stage R) (answer : Result Ticked Refusal) →
-      0 < s.ticks → CallOn distance patience step s.on (tick_event answer) u.on → row ∷ [] ≡ call_rows (tick_event answer) → u.text ≡ s.text → u.line ≡ s.line →
-      u.ticks ≡ ticks_after row s.ticks → PlaysOut distance patience step u rows last → PlaysOut distance patience step s (row ∷ rows) last
+      0 < s.ticks → CallOn rs s.on (tick_event answer) u.on → row ∷ [] ≡ call_rows (tick_event answer) → u.text ≡ s.text → u.line ≡ s.line →
+      u.ticks ≡ ticks_after row s.ticks → PlaysOut rs u rows last → PlaysOut rs s (row ∷ rows) last
   tick_first s u row rows last (Ok e) due c told text line ticks o =
       let row_is : row ≡ Ran e.tick e.runner e.letter = cc in
       let one : suc u.ticks ≡ s.ticks = omega (arith, ticks ∙ ap (λ z. ticks_after z s.ticks) row_is) in
@@ -92,7 +93,7 @@ module _ {R : Type 0} (distance : R → ℕ → ℕ) (patience : R → ℕ) (ste
         says = subst (λ (z : List ℕ). Says z o.commands o.tail) text o.says;
         calls = o.calls;
         makes = o.makes;
-        through = call_then u.on c (subst (λ (z : List Event). Through distance patience step u.on (z ++ o.calls) last) empty o.through);
+        through = call_then u.on c (subst (λ (z : List Event). Through rs u.on (z ++ o.calls) last) empty o.through);
         told =
             ap (λ z. z ∷ rows) row_is
             ∙ ap (λ z. TickRefused (number_of r) ∷ z)
@@ -105,11 +106,11 @@ module _ {R : Type 0} (distance : R → ℕ → ℕ) (patience : R → ℕ) (ste
   record Made (p : Stage R) (c : Command) (rows : List Row) (p' : Stage R) (due : List Event) : Type 0 where
     pub now_made : List Event
     pub makes : Makes c (now_made ++ due)
-    pub through : Through distance patience step p now_made p'
+    pub through : Through rs p now_made p'
     pub told : rows ≡ rows_of now_made
     pub plain : Opens c → ⊥
 
-  by_calls : (p : Stage R) (c : Command) (rows : List Row) (p' : Stage R) (k : ℕ) (due : List Event) → TicksOf k due → PlaysCommand distance patience step p c rows p' × (k ≡ 0) → (Opens c → ⊥) → Made p c rows p' due
+  by_calls : (p : Stage R) (c : Command) (rows : List Row) (p' : Stage R) (k : ℕ) (due : List Event) → TicksOf k due → PlaysCommand rs p c rows p' × (k ≡ 0) → (Opens c → ⊥) → Made p c rows p' due
   by_calls p c rows p' k due t f o = record {
     now_made = f.0.calls;
     makes = subst (λ (z : List Event). Makes c z) (sym (ap (λ z. f.0.calls ++ z) (no_ticks t f.1) ∙ append-nil f.0.calls)) f.0.says;
@@ -118,14 +119,14 @@ module _ {R : Type 0} (distance : R → ℕ → ℕ) (patience : R → ℕ) (ste
     plain = o;
   }
 
-  made : (p : Stage R) (c : Command) (rows : List Row) (p' : Stage R) (k : ℕ) (due : List Event) → TicksOf k due → RunsCommand distance patience step p c rows p' k → Made p c rows p' due
+  made : (p : Stage R) (c : Command) (rows : List Row) (p' : Stage R) (k : ℕ) (due : List Event) → TicksOf k due → RunsCommand rs p c rows p' k → Made p c rows p' due
   made p (Open t r) rows p' k due d f = absurd f
   made p (Wake a) rows p' k due d f = by_calls p (Wake a) rows p' k due d f (λ x. x)
   made p (Block a) rows p' k due d f = by_calls p (Block a) rows p' k due d f (λ x. x)
   made p (Tick n) rows p' k due d f = record {
     now_made = [];
     makes = subst (λ (z : ℕ). TicksOf z due) f.2 d;
-    through = subst (λ (z : Stage R). Through distance patience step p [] z) (sym f.1) no_more;
+    through = subst (λ (z : Stage R). Through rs p [] z) (sym f.1) no_more;
     told = f.0;
     plain = λ x. x;
   }
@@ -133,7 +134,7 @@ module _ {R : Type 0} (distance : R → ℕ → ℕ) (patience : R → ℕ) (ste
   made p (End s) rows p' k due d f = by_calls p (End s) rows p' k due d f (λ x. x)
 
   -- a line comes first
-  line_first : (s u : Standing R) (rows rows' : List Row) (last : Stage R) → RunsLine distance patience step s rows u → PlaysOut distance patience step u rows' last → PlaysOut distance patience step s (rows ++ rows') last
+  line_first : (s u : Standing R) (rows rows' : List Row) (last : Stage R) → RunsLine rs s rows u → PlaysOut rs u rows' last → PlaysOut rs s (rows ++ rows') last
   line_first s u rows rows' last g o =
       let m = made s.on g.command rows u.on u.ticks o.due o.ticks g.follows in
       let joined : (m.now_made ++ o.due) ++ o.calls ≡ m.now_made ++ (o.due ++ o.calls) = append_assoc m.now_made o.due o.calls in
@@ -149,7 +150,7 @@ module _ {R : Type 0} (distance : R → ℕ → ℕ) (patience : R → ℕ) (ste
         };
         calls = (m.now_made ++ o.due) ++ o.calls;
         makes = then_calls (m.now_made ++ o.due) o.calls m.makes o.makes;
-        through = subst (λ (z : List Event). Through distance patience step s.on z last) (sym joined) (through_then m.through o.through);
+        through = subst (λ (z : List Event). Through rs s.on z last) (sym joined) (through_then m.through o.through);
         told =
             ap (λ z. z ++ rows') m.told
             ∙ (ap (λ z. rows_of m.now_made ++ z) o.told
@@ -159,7 +160,7 @@ module _ {R : Type 0} (distance : R → ℕ → ℕ) (patience : R → ℕ) (ste
       }
 
   -- a malformed line comes first, and nothing after it
-  refused_first : (s u : Standing R) (row : Row) (rows : List Row) (last : Stage R) → StopsAtLine distance patience step s row u → PlaysOut distance patience step u rows last → PlaysOut distance patience step s (row ∷ rows) last
+  refused_first : (s u : Standing R) (row : Row) (rows : List Row) (last : Stage R) → StopsAtLine rs s row u → PlaysOut rs u rows last → PlaysOut rs s (row ∷ rows) last
   refused_first s u row rows last g o =
       let due-none : o.due ≡ [] = no_ticks o.ticks g.ticks in
       let none = no_commands o.commands o.tail (sym g.text ∙ o.says.lines) in
@@ -178,14 +179,14 @@ module _ {R : Type 0} (distance : R → ℕ → ℕ) (patience : R → ℕ) (ste
         says = record { lines = refl; playable = tt; no_more = g.says };
         calls = [];
         makes = no_calls;
-        through = subst (λ (z : Stage R). Through distance patience step z [] last) g.on (subst (λ (z : List Event). Through distance patience step u.on z last) all_none o.through);
+        through = subst (λ (z : Stage R). Through rs z [] last) g.on (subst (λ (z : List Event). Through rs u.on z last) all_none o.through);
         told = ap (λ z. z ∷ rows) g.told ∙ (ap (λ z. Malformed s.line ∷ z) told_none ∙ sym (first_row s.text s.line g.some));
       }
 
-  from_there : {s v : Standing R} {rows : List Row} (last : Stage R) → v ≡ s → PlaysOut distance patience step v rows last → PlaysOut distance patience step s rows last
-  from_there {s} {v} {rows} last e o = subst (λ (z : Standing R). PlaysOut distance patience step z rows last) e o
+  from_there : {s v : Standing R} {rows : List Row} (last : Stage R) → v ≡ s → PlaysOut rs v rows last → PlaysOut rs s rows last
+  from_there {s} {v} {rows} last e o = subst (λ (z : Standing R). PlaysOut rs z rows last) e o
 
-  pub played_out : {s : Standing R} {rows : List Row} {u : Standing R} → Onwards distance patience step s rows u → u.ticks ≡ 0 → u.text ≡ [] → PlaysOut distance patience step s rows u.on
+  pub played_out : {s : Standing R} {rows : List Row} {u : Standing R} → Onwards rs s rows u → u.ticks ≡ 0 → u.text ≡ [] → PlaysOut rs s rows u.on
   played_out {s} not_yet k t = nothing_left s k t
   played_out {s} {rows} {u} (on_by (Told row) v (inl g) o) k t =
       tick_first s v row _ u.on g.run.answer g.due g.run.called g.run.told g.text g.line g.ticks (played_out o k t)

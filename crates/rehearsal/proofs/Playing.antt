@@ -1,14 +1,15 @@
 -- Commands that make one call or two.
 use Rattle.std.proofs.Common.{◌≡◌, ℕ, Bool, List, [], ◌∷◌, Option}
+use Rattle.spare.specs.declared.rule.SpareRule.{Ghosts as SpareRules}
 use Rattle.level.specs.Meaning.{Event}
 use Rattle.command.specs.declared.command.Command.{Command}
 use Rattle.row.specs.declared.row.Row.{Row}
 use Rattle.rehearsal.specs.Calls.{rows_of, Makes}
 use Rattle.rehearsal.specs.Stages.{Stage, CallOn, no_more, call_then, PlaysCommand}
 
-module _ {R : Type 0} {distance : R → ℕ → ℕ} {patience : R → ℕ} {step : R → (ℕ → Bool) → Option ℕ → R → Type 0} {c : Command} {rows : List Row} {p : Stage R} where
-  pub one_call : {e : Event} {p' : Stage R} → Makes c (e ∷ []) → CallOn distance patience step p e p' → rows ≡ rows_of (e ∷ []) → PlaysCommand distance patience step p c rows p'
+module _ {R : Type 0} {rs : SpareRules R} {c : Command} {rows : List Row} {p : Stage R} where
+  pub one_call : {e : Event} {p' : Stage R} → Makes c (e ∷ []) → CallOn rs p e p' → rows ≡ rows_of (e ∷ []) → PlaysCommand rs p c rows p'
   one_call {e} {p'} m d t = record { calls = e ∷ []; says = m; through = call_then p' d no_more; told = t }
 
-  pub two_calls : {e f : Event} {k p' : Stage R} → Makes c (e ∷ f ∷ []) → CallOn distance patience step p e k → CallOn distance patience step k f p' → rows ≡ rows_of (e ∷ f ∷ []) → PlaysCommand distance patience step p c rows p'
+  pub two_calls : {e f : Event} {k p' : Stage R} → Makes c (e ∷ f ∷ []) → CallOn rs p e k → CallOn rs k f p' → rows ≡ rows_of (e ∷ f ∷ []) → PlaysCommand rs p c rows p'
   two_calls {e} {f} {k} {p'} m d b t = record { calls = e ∷ f ∷ []; says = m; through = call_then k d (call_then p' b no_more); told = t }

@@ -1,5 +1,6 @@
 -- A rehearsal that goes on comes to its end, and what it has told reaches the sink.
 use Rattle.std.proofs.Common.{◌≡◌, ℕ, ◌+◌, ◌*◌, ◌<◌, ◌≤◌, Bool, List, [], ◌∷◌, ◌++◌, length, Ok, Err, Option, Result, sym, refl, ap, ◌∙◌, subst, inl, inr, append_assoc, append-nil, arith}
+use Rattle.spare.specs.declared.rule.SpareRule.{Ghosts as SpareRules}
 use Rattle.std.proofs.lemmas.List.{length-append}
 use Rattle.command.specs.declared.command.Command.{Command}
 use Rattle.command.specs.declared.command.Command.TheVariants.{Open, Wake, Block, Tick, Begin, End}
@@ -42,8 +43,8 @@ some_length (x ∷ xs) h = omega arith
 pub shorter : (text : List ℕ) (c : Command) (ys : List ℕ) → Begins text c ys → length ys + 1 ≤ length text
 shorter text c ys b = omega (arith, ap length b.line, length-append (command_text c) (10 ∷ ys))
 
-module _ {R : Type 0} (distance : R → ℕ → ℕ) (patience : R → ℕ) (step : R → (ℕ → Bool) → Option ℕ → R → Type 0) where
-  few_ticks : (p : Stage R) (c : Command) (rows : List Row) (p' : Stage R) (k : ℕ) → InRange c → RunsCommand distance patience step p c rows p' k → k ≤ 9999
+module _ {R : Type 0} (rs : SpareRules R) where
+  few_ticks : (p : Stage R) (c : Command) (rows : List Row) (p' : Stage R) (k : ℕ) → InRange c → RunsCommand rs p c rows p' k → k ≤ 9999
   few_ticks p (Open t r) rows p' k i f = absurd f
   few_ticks p (Wake a) rows p' k i f = omega (arith, f.1)
   few_ticks p (Block a) rows p' k i f = omega (arith, f.1)
@@ -51,25 +52,25 @@ module _ {R : Type 0} (distance : R → ℕ → ℕ) (patience : R → ℕ) (ste
   few_ticks p (Begin s a t d e) rows p' k i f = omega (arith, f.1)
   few_ticks p (End s) rows p' k i f = omega (arith, f.1)
 
-  pub line_falls : (s : Standing R) (rows : List Row) (u : Standing R) → RunsLine distance patience step s rows u → left_over u < left_over s
+  pub line_falls : (s : Standing R) (rows : List Row) (u : Standing R) → RunsLine rs s rows u → left_over u < left_over s
   line_falls s rows u g =
       omega (arith, shorter s.text g.command u.text g.says, few_ticks s.on g.command rows u.on u.ticks g.says.range g.follows)
 
-  pub told_falls : (s : Standing R) (row : Row) (u : Standing R) → RunsOn distance patience step s (Told row) u → left_over u < left_over s
+  pub told_falls : (s : Standing R) (row : Row) (u : Standing R) → RunsOn rs s (Told row) u → left_over u < left_over s
   told_falls s row u (inl g) = omega (arith, ap length g.text, g.ticks, fewer row s.ticks g.due)
   told_falls s row u (inr (inl g)) = line_falls s (row ∷ []) u g
   told_falls s row u (inr (inr g)) = omega (arith, ap length g.text, g.ticks, some_length s.text g.some)
 
   -- one call more
-  pub onwards_more : {s : Standing R} {rows : List Row} {u : Standing R} → Onwards distance patience step s rows u → (p : Progress) (v : Standing R) → RunsOn distance patience step u p v → Onwards distance patience step s (rows ++ told_by p) v
-  onwards_more {s} {rows} {u} not_yet p v g = subst (λ (z : List Row). Onwards distance patience step s z v) (append-nil (told_by p)) (on_by p v g not_yet)
+  pub onwards_more : {s : Standing R} {rows : List Row} {u : Standing R} → Onwards rs s rows u → (p : Progress) (v : Standing R) → RunsOn rs u p v → Onwards rs s (rows ++ told_by p) v
+  onwards_more {s} {rows} {u} not_yet p v g = subst (λ (z : List Row). Onwards rs s z v) (append-nil (told_by p)) (on_by p v g not_yet)
   onwards_more (on_by q w d o) p v g = rw append_assoc (on_by q w d (onwards_more o p v g))
 
 -- Rows on their way to the sink.
-pub record SoFar {R S F : Type 0} (distance : R → ℕ → ℕ) (patience : R → ℕ) (step : R → (ℕ → Bool) → Option ℕ → R → Type 0) (hands : S → List ℕ → Result (Unit {0}) F → S → Type 0)
+pub record SoFar {R S F : Type 0} (rs : SpareRules R) (hands : S → List ℕ → Result (Unit {0}) F → S → Type 0)
     (s : Standing R) (k : S) (u : Standing R) (k' : S) (waits : List ℕ) : Type 0 where
   pub rows : List Row
-  pub onwards : Onwards distance patience step s rows u
+  pub onwards : Onwards rs s rows u
   pub front : List ℕ
   pub handed : Handed hands k front k'
   pub whole : front ++ waits ≡ rows_text rows
@@ -85,27 +86,27 @@ module _ {S F : Type 0} {hands : S → List ℕ → Result (Unit {0}) F → S �
   handed_then {k} {front} {m} a nothing = subst (λ (z : List ℕ). Handed hands k z m) (sym (append-nil front)) a
   handed_then a (more part u b h) = rw (← append_assoc) (more part u (handed_then a b) h)
 
-module _ {R S F : Type 0} {distance : R → ℕ → ℕ} {patience : R → ℕ} {step : R → (ℕ → Bool) → Option ℕ → R → Type 0} {hands : S → List ℕ → Result (Unit {0}) F → S → Type 0} {s : Standing R} {k : S} where
-  pub begins : (waits : List ℕ) → waits ≡ [] → SoFar distance patience step hands s k s k waits
+module _ {R S F : Type 0} {rs : SpareRules R} {hands : S → List ℕ → Result (Unit {0}) F → S → Type 0} {s : Standing R} {k : S} where
+  pub begins : (waits : List ℕ) → waits ≡ [] → SoFar rs hands s k s k waits
   begins waits e = record { rows = []; onwards = not_yet; front = []; handed = nothing; whole = e }
 
-  module _ {u : Standing R} {k' : S} {waits : List ℕ} (f : SoFar distance patience step hands s k u k' waits) where
+  module _ {u : Standing R} {k' : S} {waits : List ℕ} (f : SoFar rs hands s k u k' waits) where
     -- a call with no row
-    pub goes_silently : (p : Progress) (v : Standing R) → RunsOn distance patience step u p v → told_by p ≡ [] → SoFar distance patience step hands s k v k' waits
+    pub goes_silently : (p : Progress) (v : Standing R) → RunsOn rs u p v → told_by p ≡ [] → SoFar rs hands s k v k' waits
     goes_silently p v g e = record {
       rows = f.rows;
-      onwards = subst (λ (z : List Row). Onwards distance patience step s z v) (ap (λ z. f.rows ++ z) e ∙ append-nil f.rows) (onwards_more distance patience step f.onwards p v g);
+      onwards = subst (λ (z : List Row). Onwards rs s z v) (ap (λ z. f.rows ++ z) e ∙ append-nil f.rows) (onwards_more rs f.onwards p v g);
       front = f.front;
       handed = f.handed;
       whole = f.whole;
     }
 
     -- a row, put behind what waits
-    pub tells : (row : Row) (v : Standing R) → RunsOn distance patience step u (Told row) v → (sent : List ℕ) (k'' : S) (waits' : List ℕ) →
-        Handed hands k' sent k'' → sent ++ waits' ≡ waits ++ row_text row → SoFar distance patience step hands s k v k'' waits'
+    pub tells : (row : Row) (v : Standing R) → RunsOn rs u (Told row) v → (sent : List ℕ) (k'' : S) (waits' : List ℕ) →
+        Handed hands k' sent k'' → sent ++ waits' ≡ waits ++ row_text row → SoFar rs hands s k v k'' waits'
     tells row v g sent k'' waits' h e = record {
       rows = f.rows ++ (row ∷ []);
-      onwards = onwards_more distance patience step f.onwards (Told row) v g;
+      onwards = onwards_more rs f.onwards (Told row) v g;
       front = f.front ++ sent;
       handed = handed_then f.handed h;
       whole =
@@ -116,10 +117,10 @@ module _ {R S F : Type 0} {distance : R → ℕ → ℕ} {patience : R → ℕ} 
     }
 
     -- a row that is told, and before which the sink refuses what waits
-    pub breaks : (row : Row) (v : Standing R) → RunsOn distance patience step u (Told row) v → (fault : F) (k'' : S) → hands k' waits (Err fault) k'' → RunBroken distance patience step hands s k fault v k''
+    pub breaks : (row : Row) (v : Standing R) → RunsOn rs u (Told row) v → (fault : F) (k'' : S) → hands k' waits (Err fault) k'' → RunBroken rs hands s k fault v k''
     breaks row v g fault k'' h = record {
       rows = f.rows ++ (row ∷ []);
-      onwards = onwards_more distance patience step f.onwards (Told row) v g;
+      onwards = onwards_more rs f.onwards (Told row) v g;
       broken = record {
         front = f.front;
         part = waits;
@@ -132,20 +133,20 @@ module _ {R S F : Type 0} {distance : R → ℕ → ℕ} {patience : R → ℕ} 
     }
 
     -- all is told, and the sink takes what waits
-    pub ends : (v : Standing R) → RunsOn distance patience step u Over v → (k'' : S) → hands k' waits (Ok tt) k'' → RunOut distance patience step hands s k v k''
+    pub ends : (v : Standing R) → RunsOn rs u Over v → (k'' : S) → hands k' waits (Ok tt) k'' → RunOut rs hands s k v k''
     ends v g k'' h = record {
       rows = f.rows;
-      plays = subst (λ (z : Standing R). PlaysOut distance patience step s f.rows z.on) (sym g.2) (played_out distance patience step f.onwards g.0 g.1);
+      plays = subst (λ (z : Standing R). PlaysOut rs s f.rows z.on) (sym g.2) (played_out rs f.onwards g.0 g.1);
       text = ap (λ (z : Standing R). z.text) g.2 ∙ g.1;
       ticks = ap (λ (z : Standing R). z.ticks) g.2 ∙ g.0;
       handed = subst (λ (z : List ℕ). Handed hands k z k'') f.whole (more waits k'' f.handed h);
     }
 
     -- all is told, and the sink refuses what waits
-    pub ends_broken : (v : Standing R) → RunsOn distance patience step u Over v → (fault : F) (k'' : S) → hands k' waits (Err fault) k'' → RunBroken distance patience step hands s k fault v k''
+    pub ends_broken : (v : Standing R) → RunsOn rs u Over v → (fault : F) (k'' : S) → hands k' waits (Err fault) k'' → RunBroken rs hands s k fault v k''
     ends_broken v g fault k'' h = record {
       rows = f.rows;
-      onwards = subst (λ (z : Standing R). Onwards distance patience step s f.rows z) (sym g.2) f.onwards;
+      onwards = subst (λ (z : Standing R). Onwards rs s f.rows z) (sym g.2) f.onwards;
       broken = record {
         front = f.front;
         part = waits;
@@ -158,9 +159,9 @@ module _ {R S F : Type 0} {distance : R → ℕ → ℕ} {patience : R → ℕ} 
     }
 
     -- all is told, and what waits is flushed
-    pub finishes : (v : Standing R) → RunsOn distance patience step u Over v → (b b' : RowBuffer) → waits ≡ waiting b → (r : Result (Unit {0}) F) (k'' : S) → Flushes hands k' b r k'' b' → Runs distance patience step hands s k r v k''
+    pub finishes : (v : Standing R) → RunsOn rs u Over v → (b b' : RowBuffer) → waits ≡ waiting b → (r : Result (Unit {0}) F) (k'' : S) → Flushes hands k' b r k'' b' → Runs rs hands s k r v k''
     finishes v g b b' e (Ok x) k'' h = ends v g k'' (subst (λ (z : List ℕ). hands k' z (Ok tt) k'') (sym e) h.0)
     finishes v g b b' e (Err fault) k'' h = ends_broken v g fault k'' (subst (λ (z : List ℕ). hands k' z (Err fault) k'') (sym e) h.0)
 
-  pub runs_broken : (r : Result (Unit {0}) F) (y fault : F) (v : Standing R) (k'' : S) → r ≡ Err y → y ≡ fault → RunBroken distance patience step hands s k fault v k'' → Runs distance patience step hands s k r v k''
-  runs_broken r y fault v k'' e i b = subst (λ (z : Result (Unit {0}) F). Runs distance patience step hands s k z v k'') (sym (e ∙ ap Err i)) b
+  pub runs_broken : (r : Result (Unit {0}) F) (y fault : F) (v : Standing R) (k'' : S) → r ≡ Err y → y ≡ fault → RunBroken rs hands s k fault v k'' → Runs rs hands s k r v k''
+  runs_broken r y fault v k'' e i b = subst (λ (z : Result (Unit {0}) F). Runs rs hands s k z v k'') (sym (e ∙ ap Err i)) b

@@ -3,7 +3,7 @@ use Rattle.std.proofs.Common.{◌≡◌, ℕ, Bool, List, [], ◌∷◌, ◌++�
 use mathlib.Core.Path.{fun_ext}
 use Rattle.spare.specs.declared.hold.Hold.{Hold}
 use Rattle.spare.specs.declared.queue.Queue.{Queue}
-use Rattle.spare.specs.Chosen.{CallOf}
+use Rattle.spare.specs.Asking.{CallOf}
 use Rattle.level.specs.declared.ticked.Letter.{Letter}
 use Rattle.level.specs.declared.ticked.Letter.TheVariants.{Constrained, Reserved, Spare, Idle}
 use Rattle.level.specs.declared.ticket.Ticket.{Ticket}
@@ -53,10 +53,10 @@ pub record SameStage (p q : Stage (Hold Queue)) : Type 0 where
   pub rule : SameRule p.rule q.rule
 
 abbrev Asks : (ℕ → Bool) → Hold Queue → Event → Hold Queue → Type 0
-Asks = AsksRule (CallOf held_distance held_patience held_step)
+Asks = AsksRule (CallOf held)
 
 module _ (ready : ℕ → Bool) (h h' g g' : Hold Queue) (s : SameRule h g) where
-  by_letter : (l : Letter) (o : Option ℕ) → Asked (CallOf held_distance held_patience held_step) ready h l o h' → Asked (CallOf held_distance held_patience held_step) ready g l o g' → SameRule h' g'
+  by_letter : (l : Letter) (o : Option ℕ) → Asked (CallOf held) ready h l o h' → Asked (CallOf held) ready g l o g' → SameRule h' g'
   by_letter (Constrained x) o a b = same_on h h' g g' s a b
   by_letter Reserved o a b = same_on h h' g g' s a b
   by_letter Spare o a b = (hold_once ready h g h' g' s o o a.1 b.1).1
@@ -86,7 +86,7 @@ module _ (ready : ℕ → Bool) (h h' g g' : Hold Queue) (s : SameRule h g) wher
       i.4 ∙ (ap (λ (o : Option ℕ). ticked (record { tick = i.0; runner = o; letter = Spare })) name ∙ sym i.3)
 
 module _ (p q p' q' : Stage (Hold Queue)) (s : SameStage p p') where
-  call_once : (e f : Event) → CallOn held_distance held_patience held_step p e q → CallOn held_distance held_patience held_step p' f q' → call_of f ≡ call_of e → (f ≡ e) × SameStage q q'
+  call_once : (e f : Event) → CallOn held p e q → CallOn held p' f q' → call_of f ≡ call_of e → (f ≡ e) × SameStage q q'
   call_once e f c d k =
       let step : Step p.level f q'.level = subst (λ (m : Meaning). Step m f q'.level) s.level d.called.step in
       let asked : Asks p.level.ready p'.rule f q'.rule = subst (λ (m : Meaning). Asks m.ready p'.rule f q'.rule) s.level d.rule in
@@ -107,7 +107,7 @@ agree_then ds gs both_over b = b
 agree_then ds gs (next k a) b = next k (λ i. agree_then ds gs (a i) b)
 
 pub calls_once : {p q p' q' : Stage (Hold Queue)} {es fs : List Event} → Agree es fs → SameStage p p' →
-    Through held_distance held_patience held_step p es q → Through held_distance held_patience held_step p' fs q' → fs ≡ es
+    Through held p es q → Through held p' fs q' → fs ≡ es
 calls_once both_over s a b = refl
 calls_once {p} {q} {p'} {q'} (next {e} {f} {es} {fs} k a) s (call_then r c t) (call_then r' d u) =
     let o = call_once p r p' r' s e f c d k in

@@ -77,10 +77,10 @@ fresh_with h rule queue repeats e b o r c l = record {
 }
 
 module _ {owner : ℤ → Option ℕ} {cycle : ℕ} {script : List ℕ} (start : Start owner cycle script) where
-  played_from : (rows : List Row) (last : Stage (Hold Queue)) → PlaysOut held_distance held_patience held_step (record { text = start.text; line = 2; ticks = 0; on = start.first }) rows last → PlayedFrom start rows
+  played_from : (rows : List Row) (last : Stage (Hold Queue)) → PlaysOut held (record { text = start.text; line = 2; ticks = 0; on = start.first }) rows last → PlayedFrom start rows
   played_from rows last o =
       let none : o.due ≡ [] = no_ticks o.ticks refl in
-      let through : Through held_distance held_patience held_step start.first o.calls last = subst (λ (z : List Event). Through held_distance held_patience held_step start.first (z ++ o.calls) last) none o.through in
+      let through : Through held start.first o.calls last = subst (λ (z : List Event). Through held start.first (z ++ o.calls) last) none o.through in
       let bytes : length (command_text (Open start.clock start.repeats)) + (1 + length start.text) ≤ 16384 =
       omega (arith, start.short, ap length start.opens.line, length-append (command_text (Open start.clock start.repeats)) (10 ∷ start.text)) in
       let line : line_after 2 o.commands ≡ 2 + length o.commands = line_number o.commands o.tail 2 (omega (arith, ap length o.says.lines)) in
@@ -100,9 +100,9 @@ module _ {owner : ℤ → Option ℕ} {cycle : ℕ} {script : List ℕ} (start :
       }
 
   pub tells_script : {S F : Type 0} (hands : S → List ℕ → Result (Unit {0}) F → S → Type 0) (s : Standing (Hold Queue)) → s ≡ record { text = start.text; line = 2; ticks = 0; on = start.first } →
-      (k : S) (r : Result (Unit {0}) F) (u : Standing (Hold Queue)) (k' : S) → Runs held_distance held_patience held_step hands s k r u k' → TellsScript hands owner cycle script k r k'
-  tells_script hands s e k (Ok x) u k' o = (o.rows, played start (played_from o.rows u.on (subst (λ (z : Standing (Hold Queue)). PlaysOut held_distance held_patience held_step z o.rows u.on) e o.plays)), o.handed)
-  tells_script hands s e k (Err f) u k' o = (o.rows, under_way start u (subst (λ (z : Standing (Hold Queue)). Onwards held_distance held_patience held_step z o.rows u) e o.onwards), o.broken)
+      (k : S) (r : Result (Unit {0}) F) (u : Standing (Hold Queue)) (k' : S) → Runs held hands s k r u k' → TellsScript hands owner cycle script k r k'
+  tells_script hands s e k (Ok x) u k' o = (o.rows, played start (played_from o.rows u.on (subst (λ (z : Standing (Hold Queue)). PlaysOut held z o.rows u.on) e o.plays)), o.handed)
+  tells_script hands s e k (Err f) u k' o = (o.rows, under_way start u (subst (λ (z : Standing (Hold Queue)). Onwards held z o.rows u) e o.onwards), o.broken)
 
 -- A row that is told alone.
 module _ {S F : Type 0} (hands : S → List ℕ → Result (Unit {0}) F → S → Type 0) (k : S) (row : Row) (k' : S) where

@@ -1,5 +1,7 @@
 -- How a rehearsal goes on, the spare rule itself followed from call to call, up to its end.
 use Rattle.std.specs.Prelude.{◌≡◌, ℕ, ◌<◌, Bool, ◌⊎◌, List, [], ◌∷◌, ◌++◌, ℤ, Some, None, Option}
+use Rattle.timetable.specs.declared.table.Timetable.{Ghosts as Timetables}
+use Rattle.spare.specs.declared.rule.SpareRule.{Ghosts as SpareRules}
 use Rattle.level.specs.Meaning.{Event}
 use Rattle.command.specs.declared.command.Command.{Command}
 use Rattle.command.specs.declared.command.Command.TheVariants.{Open, Wake, Block, Tick, Begin, End}
@@ -22,12 +24,12 @@ pub record Standing (R : Type 0) : Type 0 where
   pub ticks : ℕ
   pub on : Stage R
 
-abbrev pub standing : {T R : Type 0} → (T → ℤ → Option ℕ) → (T → ℕ) → (R → ℕ → ℕ) → (R → ℕ) → Rehearsal T R → Standing R
-standing owner cycle distance patience s = record {
+abbrev pub standing : {T R : Type 0} → Timetables T → SpareRules R → Rehearsal T R → Standing R
+standing ts rs s = record {
   text = rest s.reader;
   line = s.reader.line;
   ticks = s.ticks;
-  on = stage owner cycle distance patience s.level;
+  on = stage ts rs s.level;
 }
 
 -- the row of what a call tells
@@ -46,11 +48,11 @@ abbrev pub malformed_row : List ℕ → ℕ → List Row
 malformed_row [] k = []
 malformed_row (b ∷ bs) k = Malformed k ∷ []
 
-module _ {R : Type 0} (distance : R → ℕ → ℕ) (patience : R → ℕ) (step : R → (ℕ → Bool) → Option ℕ → R → Type 0) where
+module _ {R : Type 0} (rs : SpareRules R) where
   -- one of the ticks of the line before is run
   pub record RunsTick (s : Standing R) (row : Row) (u : Standing R) : Type 0 where
     pub due : 0 < s.ticks
-    pub run : PlaysTick distance patience step s.on row u.on
+    pub run : PlaysTick rs s.on row u.on
     pub text : u.text ≡ s.text
     pub line : u.line ≡ s.line
     pub ticks : u.ticks ≡ ticks_after row s.ticks
@@ -58,11 +60,11 @@ module _ {R : Type 0} (distance : R → ℕ → ℕ) (patience : R → ℕ) (ste
   -- what a command does to the level, which rows it has, and how many ticks are to be run of its line; only the first line opens
   abbrev pub RunsCommand : Stage R → Command → List Row → Stage R → ℕ → Type 0
   RunsCommand p (Open t r) rows p' k = ⊥
-  RunsCommand p (Wake a) rows p' k = PlaysCommand distance patience step p (Wake a) rows p' × (k ≡ 0)
-  RunsCommand p (Block a) rows p' k = PlaysCommand distance patience step p (Block a) rows p' × (k ≡ 0)
+  RunsCommand p (Wake a) rows p' k = PlaysCommand rs p (Wake a) rows p' × (k ≡ 0)
+  RunsCommand p (Block a) rows p' k = PlaysCommand rs p (Block a) rows p' × (k ≡ 0)
   RunsCommand p (Tick n) rows p' k = (rows ≡ []) × (p' ≡ p) × (k ≡ n)
-  RunsCommand p (Begin s a t d e) rows p' k = PlaysCommand distance patience step p (Begin s a t d e) rows p' × (k ≡ 0)
-  RunsCommand p (End s) rows p' k = PlaysCommand distance patience step p (End s) rows p' × (k ≡ 0)
+  RunsCommand p (Begin s a t d e) rows p' k = PlaysCommand rs p (Begin s a t d e) rows p' × (k ≡ 0)
+  RunsCommand p (End s) rows p' k = PlaysCommand rs p (End s) rows p' × (k ≡ 0)
 
   -- the next line says a command, and that is played
   pub record RunsLine (s : Standing R) (rows : List Row) (u : Standing R) : Type 0 where
@@ -130,5 +132,5 @@ module _ {R : Type 0} (distance : R → ℕ → ℕ) (patience : R → ℕ) (ste
     pub says : Says s.text commands tail
     pub calls : List Event
     pub makes : MakesAll commands calls
-    pub through : Through distance patience step s.on (due ++ calls) last
+    pub through : Through rs s.on (due ++ calls) last
     pub told : rows ≡ rows_of (due ++ calls) ++ malformed_row tail (line_after s.line commands)

@@ -1,5 +1,7 @@
 -- How a rehearsal goes on: one call of the level after another, as the script says them.
 use Rattle.std.specs.Prelude.{◌≡◌, ℕ, ◌-◌, ◌<◌, ◌⊎◌, List, [], ℤ, Some, None, Option}
+use Rattle.timetable.specs.declared.table.Timetable.{Ghosts as Timetables}
+use Rattle.spare.specs.declared.rule.SpareRule.{Ghosts as SpareRules}
 use Rattle.level.specs.Meaning.{Meaning}
 use Rattle.level.specs.Levels.{meaning}
 use Rattle.command.specs.declared.command.Command.{Command}
@@ -21,12 +23,12 @@ pub record State : Type 0 where
   pub ticks : ℕ
   pub level : Meaning
 
-abbrev pub state : {T R : Type 0} → (T → ℤ → Option ℕ) → (T → ℕ) → (R → ℕ → ℕ) → (R → ℕ) → Rehearsal T R → State
-state owner cycle distance patience s = record {
+abbrev pub state : {T R : Type 0} → Timetables T → SpareRules R → Rehearsal T R → State
+state ts rs s = record {
   text = rest s.reader;
   line = s.reader.line;
   ticks = s.ticks;
-  level = meaning owner cycle distance patience s.level;
+  level = meaning ts rs s.level;
 }
 
 -- a refused tick ends its line

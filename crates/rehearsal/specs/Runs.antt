@@ -1,5 +1,6 @@
 -- What comes of a rehearsal that is played to its end, its rows handed to a sink.
 use Rattle.std.specs.Prelude.{◌≡◌, ℕ, Bool, List, [], ◌++◌, Ok, Err, Option, Result}
+use Rattle.spare.specs.declared.rule.SpareRule.{Ghosts as SpareRules}
 use Rattle.row.specs.declared.row.Row.{Row}
 use Rattle.row.specs.Sinks.{rows_text, Handed}
 use Rattle.rehearsal.specs.Onwards.{Standing, Onwards, PlaysOut}
@@ -14,11 +15,11 @@ pub record BrokenOff {S F : Type 0} (hands : S → List ℕ → Result (Unit {0}
   pub taken : Handed hands s front between
   pub refused : hands between part (Err f) s'
 
-module _ {R S F : Type 0} (distance : R → ℕ → ℕ) (patience : R → ℕ) (step : R → (ℕ → Bool) → Option ℕ → R → Type 0) (hands : S → List ℕ → Result (Unit {0}) F → S → Type 0) where
+module _ {R S F : Type 0} (rs : SpareRules R) (hands : S → List ℕ → Result (Unit {0}) F → S → Type 0) where
   -- all is played, and the sink has taken the rows; it has taken nothing else
   pub record RunOut (s : Standing R) (k : S) (u : Standing R) (k' : S) : Type 0 where
     pub rows : List Row
-    pub plays : PlaysOut distance patience step s rows u.on
+    pub plays : PlaysOut rs s rows u.on
     pub text : u.text ≡ []
     pub ticks : u.ticks ≡ 0
     pub handed : Handed hands k (rows_text rows) k'
@@ -26,7 +27,7 @@ module _ {R S F : Type 0} (distance : R → ℕ → ℕ) (patience : R → ℕ) 
   -- the sink has refused a part of the rows so far, and nothing was played after that
   pub record RunBroken (s : Standing R) (k : S) (f : F) (u : Standing R) (k' : S) : Type 0 where
     pub rows : List Row
-    pub onwards : Onwards distance patience step s rows u
+    pub onwards : Onwards rs s rows u
     pub broken : BrokenOff hands k (rows_text rows) f k'
 
   abbrev pub Runs : Standing R → S → Result (Unit {0}) F → Standing R → S → Type 0

@@ -9,7 +9,7 @@ use Rattle.sheet.specs.declared.fault.SheetFault.TheVariants.{Plan}
 use Rattle.sheet.specs.Told.{Holds, Refused}
 use Rattle.spare.specs.declared.hold.Hold.{Hold}
 use Rattle.spare.specs.declared.queue.Queue.{Queue}
-use Rattle.spare.specs.Chosen.{CallOf}
+use Rattle.spare.specs.Asking.{CallOf}
 use Rattle.spare.specs.Holds.{HoldStep}
 use Rattle.spare.specs.Orders.{QueueStep, place_of, in_order}
 use Rattle.level.specs.Meaning.{Event}
@@ -80,7 +80,7 @@ pub record PlayedFrom {owner : ℤ → Option ℕ} {cycle : ℕ} {script : List 
   pub calls : List Event
   pub makes : MakesAll commands calls
   pub last : Stage (Hold Queue)
-  pub through : Through held_distance held_patience held_step start.first calls last
+  pub through : Through held start.first calls last
   pub told : rows ≡ rows_of calls ++ malformed_row tail (2 + length commands)
   pub history : List Entry
   pub history_calls : calls_in history ≡ calls
@@ -95,7 +95,7 @@ pub data ScriptRows (owner : ℤ → Option ℕ) (cycle : ℕ) (script : List �
 pub data RowsSoFar (owner : ℤ → Option ℕ) (cycle : ℕ) (script : List ℕ) : List Row → Type 0 where
   all_rows : {rows : List Row} → ScriptRows owner cycle script rows → RowsSoFar owner cycle script rows
   under_way : {rows : List Row} (start : Start owner cycle script) (u : Standing (Hold Queue)) →
-      Onwards held_distance held_patience held_step (record { text = start.text; line = 2; ticks = 0; on = start.first }) rows u → RowsSoFar owner cycle script rows
+      Onwards held (record { text = start.text; line = 2; ticks = 0; on = start.first }) rows u → RowsSoFar owner cycle script rows
 
 -- A script on a sheet.
 

@@ -33,8 +33,8 @@ impl<'a, T: Timetable, R: SpareRule> Rehearsal<'a, T, R> {
     // Runs one of the ticks of the line before.
     fn run_tick(&mut self) -> Row
         requires { 0 < self.old.ticks }
-        ensures goes { TickRun (state T.Timetable.owner T.Timetable.cycle R.SpareRule.distance R.SpareRule.patience self.old) result (state T.Timetable.owner T.Timetable.cycle R.SpareRule.distance R.SpareRule.patience self.new) }
-        ensures runs { RunsTick R.SpareRule.distance R.SpareRule.patience R.SpareRule.step (standing T.Timetable.owner T.Timetable.cycle R.SpareRule.distance R.SpareRule.patience self.old) result (standing T.Timetable.owner T.Timetable.cycle R.SpareRule.distance R.SpareRule.patience self.new) }
+        ensures goes { TickRun (state T.Timetable R.SpareRule self.old) result (state T.Timetable R.SpareRule self.new) }
+        ensures runs { RunsTick R.SpareRule (standing T.Timetable R.SpareRule self.old) result (standing T.Timetable R.SpareRule self.new) }
     {
         let row = play_tick(&mut self.level);
         self.ticks = match row {
@@ -47,8 +47,8 @@ impl<'a, T: Timetable, R: SpareRule> Rehearsal<'a, T, R> {
     // The line is malformed: nothing is read after it.
     fn refuse(&mut self, line: u32) -> Row
         requires { self.old.ticks ≡ 0 }
-        ensures goes { Refused (state T.Timetable.owner T.Timetable.cycle R.SpareRule.distance R.SpareRule.patience self.old) line result (state T.Timetable.owner T.Timetable.cycle R.SpareRule.distance R.SpareRule.patience self.new) }
-        ensures runs { StopsAt R.SpareRule.distance R.SpareRule.patience R.SpareRule.step (standing T.Timetable.owner T.Timetable.cycle R.SpareRule.distance R.SpareRule.patience self.old) line (result ∷ []) (standing T.Timetable.owner T.Timetable.cycle R.SpareRule.distance R.SpareRule.patience self.new) }
+        ensures goes { Refused (state T.Timetable R.SpareRule self.old) line result (state T.Timetable R.SpareRule self.new) }
+        ensures runs { StopsAt R.SpareRule (standing T.Timetable R.SpareRule self.old) line (result ∷ []) (standing T.Timetable R.SpareRule self.new) }
     {
         self.reader.skip_all();
         Row::Malformed { line }
@@ -57,8 +57,8 @@ impl<'a, T: Timetable, R: SpareRule> Rehearsal<'a, T, R> {
     // Plays the command of a line; one that opens is malformed.
     fn play(&mut self, line: u32, command: Command) -> Option<Row>
         requires { self.old.ticks ≡ 0 }
-        ensures goes { Follows (state T.Timetable.owner T.Timetable.cycle R.SpareRule.distance R.SpareRule.patience self.old) line command result (state T.Timetable.owner T.Timetable.cycle R.SpareRule.distance R.SpareRule.patience self.new) }
-        ensures runs { LineGoes R.SpareRule.distance R.SpareRule.patience R.SpareRule.step (standing T.Timetable.owner T.Timetable.cycle R.SpareRule.distance R.SpareRule.patience self.old) line command (rows_in result) (standing T.Timetable.owner T.Timetable.cycle R.SpareRule.distance R.SpareRule.patience self.new) }
+        ensures goes { Follows (state T.Timetable R.SpareRule self.old) line command result (state T.Timetable R.SpareRule self.new) }
+        ensures runs { LineGoes R.SpareRule (standing T.Timetable R.SpareRule self.old) line command (rows_in result) (standing T.Timetable R.SpareRule self.new) }
     {
         match command {
             Command::Open { .. } => Some(self.refuse(line)),
@@ -93,8 +93,8 @@ impl<'a, T: Timetable, R: SpareRule> Rehearsal<'a, T, R> {
     // Plays the next line.
     fn play_line(&mut self) -> Option<Row>
         requires { (self.old.ticks ≡ 0) × ((rest self.old.reader ≢ [])) }
-        ensures goes { NextLine (state T.Timetable.owner T.Timetable.cycle R.SpareRule.distance R.SpareRule.patience self.old) result (state T.Timetable.owner T.Timetable.cycle R.SpareRule.distance R.SpareRule.patience self.new) }
-        ensures runs { RunsNext R.SpareRule.distance R.SpareRule.patience R.SpareRule.step (standing T.Timetable.owner T.Timetable.cycle R.SpareRule.distance R.SpareRule.patience self.old) result (standing T.Timetable.owner T.Timetable.cycle R.SpareRule.distance R.SpareRule.patience self.new) }
+        ensures goes { NextLine (state T.Timetable R.SpareRule self.old) result (state T.Timetable R.SpareRule self.new) }
+        ensures runs { RunsNext R.SpareRule (standing T.Timetable R.SpareRule self.old) result (standing T.Timetable R.SpareRule self.new) }
     {
         match self.read_line() {
             Ok((line, command)) => self.play(line, command),
@@ -104,8 +104,8 @@ impl<'a, T: Timetable, R: SpareRule> Rehearsal<'a, T, R> {
 
     /// Makes the next call that the script says: a tick still to be run of a line, or else what the next line says.
     pub fn advance(&mut self) -> Progress
-        ensures goes { Goes (state T.Timetable.owner T.Timetable.cycle R.SpareRule.distance R.SpareRule.patience self.old) result (state T.Timetable.owner T.Timetable.cycle R.SpareRule.distance R.SpareRule.patience self.new) }
-        ensures runs { RunsOn R.SpareRule.distance R.SpareRule.patience R.SpareRule.step (standing T.Timetable.owner T.Timetable.cycle R.SpareRule.distance R.SpareRule.patience self.old) result (standing T.Timetable.owner T.Timetable.cycle R.SpareRule.distance R.SpareRule.patience self.new) }
+        ensures goes { Goes (state T.Timetable R.SpareRule self.old) result (state T.Timetable R.SpareRule self.new) }
+        ensures runs { RunsOn R.SpareRule (standing T.Timetable R.SpareRule self.old) result (standing T.Timetable R.SpareRule self.new) }
     {
         if self.ticks > 0 {
             return Progress::Told(self.run_tick());

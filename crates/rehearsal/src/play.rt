@@ -12,8 +12,8 @@ use timetable::table::Timetable;
 
 /// Plays `w A`: nothing is told where the level accepts it.
 pub fn play_wake<T: Timetable, R: SpareRule>(level: &mut Level<T, R>, activity: u16) -> Option<Row>
-    ensures calls { Woken (meaning T.Timetable.owner T.Timetable.cycle R.SpareRule.distance R.SpareRule.patience level.old) activity result (meaning T.Timetable.owner T.Timetable.cycle R.SpareRule.distance R.SpareRule.patience level.new) }
-    ensures plays { PlaysCommand R.SpareRule.distance R.SpareRule.patience R.SpareRule.step (stage T.Timetable.owner T.Timetable.cycle R.SpareRule.distance R.SpareRule.patience level.old) (Wake activity) (rows_in result) (stage T.Timetable.owner T.Timetable.cycle R.SpareRule.distance R.SpareRule.patience level.new) }
+    ensures calls { Woken (meaning T.Timetable R.SpareRule level.old) activity result (meaning T.Timetable R.SpareRule level.new) }
+    ensures plays { PlaysCommand R.SpareRule (stage T.Timetable R.SpareRule level.old) (Wake activity) (rows_in result) (stage T.Timetable R.SpareRule level.new) }
 {
     match level.wake(activity) {
         Ok(()) => None,
@@ -26,8 +26,8 @@ pub fn play_wake<T: Timetable, R: SpareRule>(level: &mut Level<T, R>, activity: 
 
 /// Plays `b A`: nothing is told where the level accepts it.
 pub fn play_block<T: Timetable, R: SpareRule>(level: &mut Level<T, R>, activity: u16) -> Option<Row>
-    ensures calls { Blocked (meaning T.Timetable.owner T.Timetable.cycle R.SpareRule.distance R.SpareRule.patience level.old) activity result (meaning T.Timetable.owner T.Timetable.cycle R.SpareRule.distance R.SpareRule.patience level.new) }
-    ensures plays { PlaysCommand R.SpareRule.distance R.SpareRule.patience R.SpareRule.step (stage T.Timetable.owner T.Timetable.cycle R.SpareRule.distance R.SpareRule.patience level.old) (Block activity) (rows_in result) (stage T.Timetable.owner T.Timetable.cycle R.SpareRule.distance R.SpareRule.patience level.new) }
+    ensures calls { Blocked (meaning T.Timetable R.SpareRule level.old) activity result (meaning T.Timetable R.SpareRule level.new) }
+    ensures plays { PlaysCommand R.SpareRule (stage T.Timetable R.SpareRule level.old) (Block activity) (rows_in result) (stage T.Timetable R.SpareRule level.new) }
 {
     match level.block(activity) {
         Ok(()) => None,
@@ -40,8 +40,8 @@ pub fn play_block<T: Timetable, R: SpareRule>(level: &mut Level<T, R>, activity:
 
 /// Plays one tick.
 pub fn play_tick<T: Timetable, R: SpareRule>(level: &mut Level<T, R>) -> Row
-    ensures calls { Ticks (meaning T.Timetable.owner T.Timetable.cycle R.SpareRule.distance R.SpareRule.patience level.old) result (meaning T.Timetable.owner T.Timetable.cycle R.SpareRule.distance R.SpareRule.patience level.new) }
-    ensures plays { PlaysTick R.SpareRule.distance R.SpareRule.patience R.SpareRule.step (stage T.Timetable.owner T.Timetable.cycle R.SpareRule.distance R.SpareRule.patience level.old) result (stage T.Timetable.owner T.Timetable.cycle R.SpareRule.distance R.SpareRule.patience level.new) }
+    ensures calls { Ticks (meaning T.Timetable R.SpareRule level.old) result (meaning T.Timetable R.SpareRule level.new) }
+    ensures plays { PlaysTick R.SpareRule (stage T.Timetable R.SpareRule level.old) result (stage T.Timetable R.SpareRule level.new) }
 {
     match level.tick() {
         Ok(ticked) => Row::Ran {
@@ -64,8 +64,8 @@ pub fn play_begin<T: Timetable, R: SpareRule>(
     deadline: i32,
     estimate: u16,
 ) -> Row
-    ensures calls { Begun (meaning T.Timetable.owner T.Timetable.cycle R.SpareRule.distance R.SpareRule.patience level.old) seat activity start deadline estimate result (meaning T.Timetable.owner T.Timetable.cycle R.SpareRule.distance R.SpareRule.patience level.new) }
-    ensures plays { PlaysCommand R.SpareRule.distance R.SpareRule.patience R.SpareRule.step (stage T.Timetable.owner T.Timetable.cycle R.SpareRule.distance R.SpareRule.patience level.old) (Begin seat activity start deadline estimate) (result ∷ []) (stage T.Timetable.owner T.Timetable.cycle R.SpareRule.distance R.SpareRule.patience level.new) }
+    ensures calls { Begun (meaning T.Timetable R.SpareRule level.old) seat activity start deadline estimate result (meaning T.Timetable R.SpareRule level.new) }
+    ensures plays { PlaysCommand R.SpareRule (stage T.Timetable R.SpareRule level.old) (Begin seat activity start deadline estimate) (result ∷ []) (stage T.Timetable R.SpareRule level.new) }
 {
     match level.begin(seat, activity, start, estimate, deadline) {
         Ok(ticket) => match level.leave(ticket) {
@@ -81,8 +81,8 @@ pub fn play_begin<T: Timetable, R: SpareRule>(
 
 /// Plays `e SEAT`: the ticket that was left there is collected, and its constraint ended.
 pub fn play_end<T: Timetable, R: SpareRule>(level: &mut Level<T, R>, seat: u16) -> Row
-    ensures calls { Finished (meaning T.Timetable.owner T.Timetable.cycle R.SpareRule.distance R.SpareRule.patience level.old) seat result (meaning T.Timetable.owner T.Timetable.cycle R.SpareRule.distance R.SpareRule.patience level.new) }
-    ensures plays { PlaysCommand R.SpareRule.distance R.SpareRule.patience R.SpareRule.step (stage T.Timetable.owner T.Timetable.cycle R.SpareRule.distance R.SpareRule.patience level.old) (End seat) (result ∷ []) (stage T.Timetable.owner T.Timetable.cycle R.SpareRule.distance R.SpareRule.patience level.new) }
+    ensures calls { Finished (meaning T.Timetable R.SpareRule level.old) seat result (meaning T.Timetable R.SpareRule level.new) }
+    ensures plays { PlaysCommand R.SpareRule (stage T.Timetable R.SpareRule level.old) (End seat) (result ∷ []) (stage T.Timetable R.SpareRule level.new) }
 {
     match level.collect(seat) {
         Ok(ticket) => match level.end(ticket) {

@@ -12,7 +12,7 @@ use timetable::table::Timetable;
 impl<T: Timetable, R: SpareRule> Rehearsal<'_, T, R> {
     /// Plays all that is left, and hands the rows to the sink. Where the sink refuses, nothing more is played.
     pub fn run<S: Sink>(&mut self, sink: &mut S) -> Result<(), S::Fault>
-        ensures { Runs R.SpareRule.distance R.SpareRule.patience R.SpareRule.step S.Sink.hands (standing T.Timetable.owner T.Timetable.cycle R.SpareRule.distance R.SpareRule.patience self.old) sink.old result (standing T.Timetable.owner T.Timetable.cycle R.SpareRule.distance R.SpareRule.patience self.new) sink.new }
+        ensures { Runs R.SpareRule S.Sink.hands (standing T.Timetable R.SpareRule self.old) sink.old result (standing T.Timetable R.SpareRule self.new) sink.new }
     {
         let mut rows = RowBuffer::new();
         loop {

@@ -1,5 +1,7 @@
 -- What a script does to the level that it is given.
 use Rattle.std.specs.Prelude.{◌≡◌, ℕ, List, ◌++◌, ℤ, Some, Option, ◌≢◌}
+use Rattle.timetable.specs.declared.table.Timetable.{Ghosts as Timetables}
+use Rattle.spare.specs.declared.rule.SpareRule.{Ghosts as SpareRules}
 use Rattle.level.specs.declared.level.Level.{Level}
 use Rattle.level.specs.Meaning.{Meaning}
 use Rattle.level.specs.Together.{Tagged, Together}
@@ -20,5 +22,5 @@ pub record Plays (m n : Meaning) : Type 0 where
   pub number : n.number ≡ m.number
   pub onward : (h : List Tagged) (w : ℕ → Option Meaning) → Together h w → w m.number ≡ Some m → Onward m n h w
 
-abbrev pub LevelPlays : {T R : Type 0} → (T → ℤ → Option ℕ) → (T → ℕ) → (R → ℕ → ℕ) → (R → ℕ) → Level T R → Level T R → Type 0
-LevelPlays owner cycle distance patience l k = Plays (meaning owner cycle distance patience l) (meaning owner cycle distance patience k)
+abbrev pub LevelPlays : {T R : Type 0} → Timetables T → SpareRules R → Level T R → Level T R → Type 0
+LevelPlays ts rs l k = Plays (meaning ts rs l) (meaning ts rs k)

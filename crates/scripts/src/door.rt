@@ -19,8 +19,8 @@ pub fn open_door<T: Timetable, R: SpareRule>(
     needed: u16,
     deadline: i32,
 ) -> Result<(), Refusal>
-    ensures done { DoorOpened (meaning T.Timetable.owner T.Timetable.cycle R.SpareRule.distance R.SpareRule.patience level.old) seat door start needed deadline result (meaning T.Timetable.owner T.Timetable.cycle R.SpareRule.distance R.SpareRule.patience level.new) }
-    ensures plays { LevelPlays T.Timetable.owner T.Timetable.cycle R.SpareRule.distance R.SpareRule.patience level.old level.new }
+    ensures done { DoorOpened (meaning T.Timetable R.SpareRule level.old) seat door start needed deadline result (meaning T.Timetable R.SpareRule level.new) }
+    ensures plays { LevelPlays T.Timetable R.SpareRule level.old level.new }
 {
     match level.begin(seat, door, start, needed, deadline) {
         Ok(ticket) => match level.leave(ticket) {
@@ -36,8 +36,8 @@ pub fn close_door<T: Timetable, R: SpareRule>(
     level: &mut Level<T, R>,
     seat: u16,
 ) -> Result<u32, Refusal>
-    ensures done { DoorClosed (meaning T.Timetable.owner T.Timetable.cycle R.SpareRule.distance R.SpareRule.patience level.old) seat result (meaning T.Timetable.owner T.Timetable.cycle R.SpareRule.distance R.SpareRule.patience level.new) }
-    ensures plays { LevelPlays T.Timetable.owner T.Timetable.cycle R.SpareRule.distance R.SpareRule.patience level.old level.new }
+    ensures done { DoorClosed (meaning T.Timetable R.SpareRule level.old) seat result (meaning T.Timetable R.SpareRule level.new) }
+    ensures plays { LevelPlays T.Timetable R.SpareRule level.old level.new }
 {
     match level.collect(seat) {
         Ok(ticket) => match level.end(ticket) {

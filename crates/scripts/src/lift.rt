@@ -11,7 +11,7 @@ use timetable::table::Timetable;
 
 // Runs so many ticks.
 fn run<T: Timetable, R: SpareRule>(level: &mut Level<T, R>, ticks: u16)
-    ensures { LevelPlays T.Timetable.owner T.Timetable.cycle R.SpareRule.distance R.SpareRule.patience level.old level.new }
+    ensures { LevelPlays T.Timetable R.SpareRule level.old level.new }
 {
     for _k in 0..ticks {
         let _ = level.tick();
@@ -26,8 +26,8 @@ pub fn ride<T: Timetable, R: SpareRule>(
     needed: u16,
     length: u16,
 ) -> Outcome
-    ensures done { (deadline : ℤ) × Ridden (meaning T.Timetable.owner T.Timetable.cycle R.SpareRule.distance R.SpareRule.patience level.old) seat lift needed deadline result (meaning T.Timetable.owner T.Timetable.cycle R.SpareRule.distance R.SpareRule.patience level.new) }
-    ensures plays { LevelPlays T.Timetable.owner T.Timetable.cycle R.SpareRule.distance R.SpareRule.patience level.old level.new }
+    ensures done { (deadline : ℤ) × Ridden (meaning T.Timetable R.SpareRule level.old) seat lift needed deadline result (meaning T.Timetable R.SpareRule level.new) }
+    ensures plays { LevelPlays T.Timetable R.SpareRule level.old level.new }
 {
     let start = level.clock();
     let deadline = start.saturating_add(i32::from(length));

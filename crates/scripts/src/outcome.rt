@@ -22,8 +22,8 @@ pub enum Outcome {
 
 /// Ends the constraint of the ticket.
 pub fn finish<T: Timetable, R: SpareRule>(level: &mut Level<T, R>, ticket: Ticket) -> Outcome
-    ensures done { Finished (meaning T.Timetable.owner T.Timetable.cycle R.SpareRule.distance R.SpareRule.patience level.old) ticket result (meaning T.Timetable.owner T.Timetable.cycle R.SpareRule.distance R.SpareRule.patience level.new) }
-    ensures plays { LevelPlays T.Timetable.owner T.Timetable.cycle R.SpareRule.distance R.SpareRule.patience level.old level.new }
+    ensures done { Finished (meaning T.Timetable R.SpareRule level.old) ticket result (meaning T.Timetable R.SpareRule level.new) }
+    ensures plays { LevelPlays T.Timetable R.SpareRule level.old level.new }
 {
     match level.end(ticket) {
         Ok(ran) => Outcome::Ended { ran },

@@ -19,8 +19,8 @@ pub fn shuttle<T: Timetable, R: SpareRule>(
     needed: u16,
     length: u16,
 ) -> (Outcome, Outcome)
-    ensures done { Shuttled (meaning T.Timetable.owner T.Timetable.cycle R.SpareRule.distance R.SpareRule.patience level.old) out back platform needed result.0 result.1 (meaning T.Timetable.owner T.Timetable.cycle R.SpareRule.distance R.SpareRule.patience level.new) }
-    ensures plays { LevelPlays T.Timetable.owner T.Timetable.cycle R.SpareRule.distance R.SpareRule.patience level.old level.new }
+    ensures done { Shuttled (meaning T.Timetable R.SpareRule level.old) out back platform needed result.0 result.1 (meaning T.Timetable R.SpareRule level.new) }
+    ensures plays { LevelPlays T.Timetable R.SpareRule level.old level.new }
 {
     let start = level.clock();
     let turn = start.saturating_add(i32::from(length));

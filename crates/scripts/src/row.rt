@@ -10,9 +10,9 @@ use timetable::table::Timetable;
 /// Runs a tick of each. If they have different numbers, then whatever levels there are besides and whatever was done before, all promises
 /// hold of all levels afterwards.
 pub fn tick_all<T: Timetable, R: SpareRule>(levels: &mut [Level<T, R>])
-    ensures each { (k : ℕ) (d : Level T R) → k < length levels.old → TickedOnce (meaning T.Timetable.owner T.Timetable.cycle R.SpareRule.distance R.SpareRule.patience (slice_index_or levels.old k d)) (meaning T.Timetable.owner T.Timetable.cycle R.SpareRule.distance R.SpareRule.patience (slice_index_or levels.new k d)) }
+    ensures each { (k : ℕ) (d : Level T R) → k < length levels.old → TickedOnce (meaning T.Timetable R.SpareRule (slice_index_or levels.old k d)) (meaning T.Timetable R.SpareRule (slice_index_or levels.new k d)) }
     ensures size { length levels.new ≡ length levels.old }
-    ensures plays { RowPlays (map (meaning T.Timetable.owner T.Timetable.cycle R.SpareRule.distance R.SpareRule.patience) levels.old) (map (meaning T.Timetable.owner T.Timetable.cycle R.SpareRule.distance R.SpareRule.patience) levels.new) }
+    ensures plays { RowPlays (map (meaning T.Timetable R.SpareRule) levels.old) (map (meaning T.Timetable R.SpareRule) levels.new) }
 {
     for k in 0..levels.len() {
         let _ = levels[k].tick();

@@ -1,6 +1,6 @@
 // Several levels, over different timetables and rules, that tick side by side.
 ghost use Rattle.std.specs.Prelude.{ℕ, ℤ, pos};
-ghost use Rattle.level.specs.Levels.{meaning, wake_event, tick_event};
+ghost use Rattle.level.specs.Levels.{meaning, opening, wake_event, tick_event};
 ghost use Rattle.level.specs.Meaning.{Rule};
 ghost use Rattle.level.specs.Together.{Opening};
 ghost use Rattle.scripts.specs.Stories.{TicksBoth, Story};
@@ -17,7 +17,7 @@ pub fn tick_both<T: Timetable, R: SpareRule, U: Timetable, S: SpareRule>(
     left: &mut Level<T, R>,
     right: &mut Level<U, S>,
 ) -> (Result<Ticked, Refusal>, Result<Ticked, Refusal>)
-    ensures { TicksBoth (meaning T.Timetable.owner T.Timetable.cycle R.SpareRule.distance R.SpareRule.patience left.old) (tick_event result.0) (meaning T.Timetable.owner T.Timetable.cycle R.SpareRule.distance R.SpareRule.patience left.new) (meaning U.Timetable.owner U.Timetable.cycle S.SpareRule.distance S.SpareRule.patience right.old) (tick_event result.1) (meaning U.Timetable.owner U.Timetable.cycle S.SpareRule.distance S.SpareRule.patience right.new) }
+    ensures { TicksBoth (meaning T.Timetable R.SpareRule left.old) (tick_event result.0) (meaning T.Timetable R.SpareRule left.new) (meaning U.Timetable S.SpareRule right.old) (tick_event result.1) (meaning U.Timetable S.SpareRule right.new) }
 {
     let first = left.tick();
     let second = right.tick();
@@ -43,7 +43,7 @@ pub fn play<T: Timetable, R: SpareRule, U: Timetable, S: SpareRule>(
     another: S,
     activity: u16,
 ) -> Played<T, R, U, S>
-    ensures { Story (record { clock = pos 0; owner = T.Timetable.owner timetable; cycle = T.Timetable.cycle timetable; rule = record { distance = R.SpareRule.distance rule; patience = R.SpareRule.patience rule } }) (record { clock = pos 0; owner = U.Timetable.owner other; cycle = U.Timetable.cycle other; rule = record { distance = S.SpareRule.distance another; patience = S.SpareRule.patience another } }) (wake_event activity result.woken) (tick_event result.first) (tick_event result.second) (meaning T.Timetable.owner T.Timetable.cycle R.SpareRule.distance R.SpareRule.patience result.left) (meaning U.Timetable.owner U.Timetable.cycle S.SpareRule.distance S.SpareRule.patience result.right) }
+    ensures { Story (opening T.Timetable R.SpareRule (pos 0) timetable rule) (opening U.Timetable S.SpareRule (pos 0) other another) (wake_event activity result.woken) (tick_event result.first) (tick_event result.second) (meaning T.Timetable R.SpareRule result.left) (meaning U.Timetable S.SpareRule result.right) }
 {
     let mut left = Level::open(0, 0, timetable, rule);
     let mut right = Level::open(1, 0, other, another);

@@ -4,7 +4,9 @@ use Rattle.std.proofs.lemmas.List.{take_more, take_more_set}
 use Rattle.std.proofs.lemmas.Bool.{cases_eq, both_ways}
 use Rattle.spare.specs.declared.ready.ReadySet.{ReadySet}
 use Rattle.spare.specs.Calls.{Call, Chained, ReadyAtEach, NamedInSome, StarvesNobody, Answer, AnswersOf, calls_of, NeverStarves, Ran, EachServed}
-use Rattle.spare.specs.Chosen.{Within, Chosen, CallOf}
+use Rattle.spare.specs.Chosen.{Within, Chosen}
+use Rattle.spare.specs.declared.rule.SpareRule.{Ghosts as SpareRules}
+use Rattle.spare.specs.Asking.{CallOf}
 use Rattle.spare.specs.Sets.{is_ready}
 
 -- a ready one is named, or comes nearer
@@ -50,41 +52,40 @@ chained_starves_nobody d p cs h earlier row later e n a k r =
     starves_nobody d p earlier row later (subst (Chained d p) e h) n a k r
 
 -- answers of a rule are such calls, by the law of the interface
-module _ {R : Type 0} (distance : R → ℕ → ℕ) (patience : R → ℕ) (bounded : (x : R) → Within (distance x) (patience x)) where
-  pub answers_chained : (x : R) (ss : List (Answer R)) → AnswersOf distance patience x ss → Chained (distance x) (patience x) (calls_of distance patience x ss)
+module _ {R : Type 0} (rs : SpareRules R) (bounded : (x : R) → Within (rs.distance x) (rs.patience x)) where
+  pub answers_chained : (x : R) (ss : List (Answer R)) → AnswersOf rs x ss → Chained (rs.distance x) (rs.patience x) (calls_of rs x ss)
   answers_chained x [] h = tt
   answers_chained x (s ∷ ss) h = ((λ a k. refl), refl, (bounded x, h.0), answers_chained s.rule ss h.1)
 
-  pub never_starves : (x : R) → NeverStarves distance patience x
-  never_starves x ss h = chained_starves_nobody (distance x) (patience x) (calls_of distance patience x ss) (answers_chained x ss h)
+  pub never_starves : (x : R) → NeverStarves rs x
+  never_starves x ss h = chained_starves_nobody (rs.distance x) (rs.patience x) (calls_of rs x ss) (answers_chained x ss h)
 
   -- calls that were really made, set by set
-  module _ (step : R → (ℕ → Bool) → Option ℕ → R → Type 0) where
-    soon : (x : R) (sets : List ReadySet) (names : List (Option ℕ)) (y : R) (a m : ℕ) → Ran (CallOf distance patience step) x sets names y → m ≤ length sets → a < 16 → ((k : ℕ) (s : ReadySet) → k < m → is_ready (get_or sets k s) a ≡ true) → distance x a < m → (k : ℕ) × (k < m) × (get_or names k None ≡ Some a)
-    soon x [] [] y a m h w l r d = absurd (omega arith)
-    soon x [] (n ∷ ns) y a m h w l r d = absurd h
-    soon x (s ∷ ss) [] y a m h w l r d = absurd h
-    soon x (s ∷ ss) (n ∷ ns) y a zero h w l r d = absurd (omega arith)
-    soon x (s ∷ ss) (n ∷ ns) y a (suc m) (z, call, rest) w l r d =
-        ⊎_elim (λ e. (0, omega arith, e))
-        (λ (f : distance z a < distance x a). let later = soon z ss ns y a m rest (omega arith) l (λ k t lt. r (suc k) t (omega arith)) (omega arith) in let lt = later.1 in (suc later.0, omega arith, later.2))
-        (named_or_nearer (is_ready s) (distance x) (patience x) n (distance z) (patience z) a call.0 (r 0 s (omega arith)))
+  soon : (x : R) (sets : List ReadySet) (names : List (Option ℕ)) (y : R) (a m : ℕ) → Ran (CallOf rs) x sets names y → m ≤ length sets → a < 16 → ((k : ℕ) (s : ReadySet) → k < m → is_ready (get_or sets k s) a ≡ true) → rs.distance x a < m → (k : ℕ) × (k < m) × (get_or names k None ≡ Some a)
+  soon x [] [] y a m h w l r d = absurd (omega arith)
+  soon x [] (n ∷ ns) y a m h w l r d = absurd h
+  soon x (s ∷ ss) [] y a m h w l r d = absurd h
+  soon x (s ∷ ss) (n ∷ ns) y a zero h w l r d = absurd (omega arith)
+  soon x (s ∷ ss) (n ∷ ns) y a (suc m) (z, call, rest) w l r d =
+      ⊎_elim (λ e. (0, omega arith, e))
+      (λ (f : rs.distance z a < rs.distance x a). let later = soon z ss ns y a m rest (omega arith) l (λ k t lt. r (suc k) t (omega arith)) (omega arith) in let lt = later.1 in (suc later.0, omega arith, later.2))
+      (named_or_nearer (is_ready s) (rs.distance x) (rs.patience x) n (rs.distance z) (rs.patience z) a call.0 (r 0 s (omega arith)))
 
-    pub each_served : (x : R) (sets : List ReadySet) (names : List (Option ℕ)) (y : R) → Ran (CallOf distance patience step) x sets names y → EachServed (patience x) sets names
-    each_served x sets names y h zero a w l r =
-        let found = soon x sets names y a (patience x + 1) h (omega arith) l (λ k t lt. r k t (omega arith) (omega arith)) (omega (arith, bounded x a l)) in
-        let lt = found.1 in
-        (found.0, omega arith, omega arith, found.2)
-    each_served x [] [] y h (suc i) a w l r = absurd (omega arith)
-    each_served x [] (n ∷ ns) y h (suc i) a w l r = absurd h
-    each_served x (s ∷ ss) [] y h (suc i) a w l r = absurd h
-    each_served x (s ∷ ss) (n ∷ ns) y h (suc i) a w l r =
-        let z = h.0 in
-        let same : patience h.0 ≡ patience x = same_patience (is_ready s) (distance x) (patience x) n (distance z) (patience z) h.1.0 in
-        let later = each_served z ss ns y h.2 i a (omega arith) l (λ k t low high. r (suc k) t (omega arith) (omega arith)) in
-        let low = later.1 in
-        let high = later.2 in
-        (suc later.0, omega arith, omega arith, later.3)
+  pub each_served : (x : R) (sets : List ReadySet) (names : List (Option ℕ)) (y : R) → Ran (CallOf rs) x sets names y → EachServed (rs.patience x) sets names
+  each_served x sets names y h zero a w l r =
+      let found = soon x sets names y a (rs.patience x + 1) h (omega arith) l (λ k t lt. r k t (omega arith) (omega arith)) (omega (arith, bounded x a l)) in
+      let lt = found.1 in
+      (found.0, omega arith, omega arith, found.2)
+  each_served x [] [] y h (suc i) a w l r = absurd (omega arith)
+  each_served x [] (n ∷ ns) y h (suc i) a w l r = absurd h
+  each_served x (s ∷ ss) [] y h (suc i) a w l r = absurd h
+  each_served x (s ∷ ss) (n ∷ ns) y h (suc i) a w l r =
+      let z = h.0 in
+      let same : rs.patience h.0 ≡ rs.patience x = same_patience (is_ready s) (rs.distance x) (rs.patience x) n (rs.distance z) (rs.patience z) h.1.0 in
+      let later = each_served z ss ns y h.2 i a (omega arith) l (λ k t low high. r (suc k) t (omega arith) (omega arith)) in
+      let low = later.1 in
+      let high = later.2 in
+      (suc later.0, omega arith, omega arith, later.3)
 
 -- one more call
 pub ran_push : {R : Type 0} (call : R → (ℕ → Bool) → Option ℕ → R → Type 0) (x : R) (sets : List ReadySet) (names : List (Option ℕ)) (y : R) (s : ReadySet) (n : Option ℕ) (z : R) → Ran call x sets names y → call y (is_ready s) n z → Ran call x (sets ++ s ∷ []) (names ++ n ∷ []) z

@@ -1,6 +1,7 @@
 -- Calls of one rule, one after another, and what they promise to an activity that stays ready.
 use Rattle.std.specs.Prelude.{◌≡◌, ℕ, ◌+◌, ◌<◌, ◌≤◌, Bool, true, ◌⊎◌, List, [], ◌∷◌, ◌++◌, length, Some, None, Option, slice_index_or}
 use Rattle.spare.specs.declared.ready.ReadySet.{ReadySet}
+use Rattle.spare.specs.declared.rule.SpareRule.{Ghosts as SpareRules}
 use Rattle.spare.specs.Chosen.{Within, Chosen}
 use Rattle.spare.specs.Sets.{is_ready}
 
@@ -50,12 +51,12 @@ pub record Answer (R : Type 0) : Type 0 where
   pub name : Option ℕ
   pub rule : R
 
-module _ {R : Type 0} (distance : R → ℕ → ℕ) (patience : R → ℕ) where
+module _ {R : Type 0} (rs : SpareRules R) where
   -- the answers are what calls of the rule x, one after another, may give
   abbrev pub AnswersOf : R → List (Answer R) → Type 0
   AnswersOf x [] = Unit {0}
   AnswersOf x (s ∷ ss) =
-      Chosen s.ready (distance x) (patience x) s.name (distance s.rule) (patience s.rule) × AnswersOf s.rule ss
+      Chosen s.ready (rs.distance x) (rs.patience x) s.name (rs.distance s.rule) (rs.patience s.rule) × AnswersOf s.rule ss
 
   -- the same calls by their meaning alone
   abbrev pub calls_of : R → List (Answer R) → List Call
@@ -64,16 +65,16 @@ module _ {R : Type 0} (distance : R → ℕ → ℕ) (patience : R → ℕ) wher
       record {
         ready = s.ready;
         name = s.name;
-        distance = distance x;
-        patience = patience x;
-        distance_after = distance s.rule;
-        patience_after = patience s.rule;
+        distance = rs.distance x;
+        patience = rs.patience x;
+        distance_after = rs.distance s.rule;
+        patience_after = rs.patience s.rule;
       }
       ∷ calls_of s.rule ss
 
   -- whatever the rule x is asked from now on, it starves nobody
   abbrev pub NeverStarves : R → Type 0
-  NeverStarves x = (ss : List (Answer R)) → AnswersOf x ss → StarvesNobody (patience x) (calls_of x ss)
+  NeverStarves x = (ss : List (Answer R)) → AnswersOf x ss → StarvesNobody (rs.patience x) (calls_of x ss)
 
 -- the rule x, asked once for each of these sets in their order, names these and is left as y
 abbrev pub Ran : {R : Type 0} → (R → (ℕ → Bool) → Option ℕ → R → Type 0) → R → List ReadySet → List (Option ℕ) → R → Type 0

@@ -22,8 +22,3 @@ pub record Names (a : ℕ) (ready : ℕ → Bool) (d : ℕ → ℕ) (p : ℕ) (d
 abbrev pub Chosen : (ℕ → Bool) → (ℕ → ℕ) → ℕ → Option ℕ → (ℕ → ℕ) → ℕ → Type 0
 Chosen ready d p None d' p' = NamesNobody ready d p d' p'
 Chosen ready d p (Some a) d' p' = Names a ready d p d' p'
-
--- all that one call of a rule does: the interface's clause, and what the rule itself says beyond it
-abbrev pub CallOf : {R : Type 0} → (R → ℕ → ℕ) → (R → ℕ) → (R → (ℕ → Bool) → Option ℕ → R → Type 0) → R → (ℕ → Bool) → Option ℕ → R → Type 0
-CallOf distance patience step x ready name y =
-    Chosen ready (distance x) (patience x) name (distance y) (patience y) × step x ready name y

@@ -1,5 +1,6 @@
 pub mod Sets
 pub mod Chosen
+pub mod Asking
 pub mod Orders
 pub mod Holds
 pub mod Wheels

@@ -1,6 +1,6 @@
 // How a hold chooses, and that it is a spare rule if the one below is.
 ghost use Rattle.std.specs.Prelude.{◌≡◌, ℕ, ◌+◌, ◌*◌, ◌<◌, true, false, Some, MatchOption};
-ghost use Rattle.spare.specs.Chosen.{CallOf};
+ghost use Rattle.spare.specs.Asking.{CallOf};
 ghost use Rattle.spare.specs.Holds.{HoldStep, Held, repeating};
 ghost use Rattle.spare.specs.Sets.{is_ready};
 ghost use Rattle.spare.specs.Falls.{held_bound};
@@ -33,7 +33,7 @@ impl<R: SpareRule> SpareRule for Hold<R> {
 
     ghost patience = { λ h. (h.repeats + 1) * R.SpareRule.patience h.below + h.repeats };
 
-    ghost step = { HoldStep (CallOf R.SpareRule.distance R.SpareRule.patience R.SpareRule.step) };
+    ghost step = { HoldStep (CallOf R.SpareRule) };
 
     ghost bounded = { λ x a h. held_bound x.repeats _ _ x.left (R.SpareRule.bounded x.below a h) x.few };
 

@@ -1,7 +1,7 @@
 // Asking a rule again and again, and what every rule promises to whoever stays ready.
 ghost use Rattle.std.specs.Prelude.{◌≡◌, ℕ, min, length, take, drop};
 ghost use Rattle.spare.specs.Calls.{NeverStarves, Ran, EachServed};
-ghost use Rattle.spare.specs.Chosen.{CallOf};
+ghost use Rattle.spare.specs.Asking.{CallOf};
 
 use crate::ready::ReadySet;
 use crate::rule::SpareRule;
@@ -13,10 +13,10 @@ use crate::rule::SpareRule;
 /// calls of the rule from now on, whatever it is asked.
 pub fn name_each<R: SpareRule>(rule: &mut R, sets: &[ReadySet], names: &mut [Option<u8>]) -> usize
     ensures count { result ≡ min (length sets.now) (length names.old) }
-    ensures ran { Ran (CallOf R.SpareRule.distance R.SpareRule.patience R.SpareRule.step) rule.old (take result sets.now) (take result names.new) rule.new }
+    ensures ran { Ran (CallOf R.SpareRule) rule.old (take result sets.now) (take result names.new) rule.new }
     ensures rest { drop result names.new ≡ drop result names.old }
     ensures served { EachServed (R.SpareRule.patience rule.old) (take result sets.now) (take result names.new) }
-    ensures always { NeverStarves R.SpareRule.distance R.SpareRule.patience rule.new }
+    ensures always { NeverStarves R.SpareRule rule.new }
 {
     let count = sets.len().min(names.len());
     for k in 0..count {

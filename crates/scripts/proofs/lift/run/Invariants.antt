@@ -2,4 +2,4 @@ use Rattle.scripts.specs.Plays.{LevelPlays}
 use Rattle.scripts.proofs.lift.run.Given as goal
 
 abbrev pub invariant-loop-k : goal.invariant-loop-k
-invariant-loop-k g l = LevelPlays g.T.Timetable.owner g.T.Timetable.cycle g.R.SpareRule.distance g.R.SpareRule.patience l.initial.level l.level
+invariant-loop-k g l = LevelPlays g.T.Timetable g.R.SpareRule l.initial.level l.level

@@ -7,7 +7,7 @@ use Rattle.scripts.proofs.row.tick_all.Goals as goal
 
 pub loop-k-preserved : goal.loop-k-preserved
 loop-k-preserved g c =
-    let f = meaning g.T.Timetable.owner g.T.Timetable.cycle g.R.SpareRule.distance g.R.SpareRule.patience in
+    let f = meaning g.T.Timetable g.R.SpareRule in
     let i = c.loop-k.invariant in
     let same = i.0 in
     let lt : c.loop-k.k < length c.loop-k.levels = omega arith in (
@@ -18,7 +18,7 @@ loop-k-preserved g c =
 
 pub returns : goal.returns
 returns g c =
-    let f = meaning g.T.Timetable.owner g.T.Timetable.cycle g.R.SpareRule.distance g.R.SpareRule.patience in
+    let f = meaning g.T.Timetable g.R.SpareRule in
     let i = c.loop-k.invariant in
     record {
       each = λ k d l. i.1 k d (omega arith);

@@ -7,5 +7,5 @@ use Rattle.scripts.proofs.row.tick_all.Given as goal
 abbrev pub invariant-loop-k : goal.invariant-loop-k
 invariant-loop-k g l =
     (length l.levels ≡ length l.initial.levels)
-    × ((j : ℕ) (d : Level g.row.T.Denot g.row.R.Denot) → j < l.k → TickedOnce (meaning g.T.Timetable.owner g.T.Timetable.cycle g.R.SpareRule.distance g.R.SpareRule.patience (get_or l.initial.levels j d)) (meaning g.T.Timetable.owner g.T.Timetable.cycle g.R.SpareRule.distance g.R.SpareRule.patience (get_or l.levels j d)))
+    × ((j : ℕ) (d : Level g.row.T.Denot g.row.R.Denot) → j < l.k → TickedOnce (meaning g.T.Timetable g.R.SpareRule (get_or l.initial.levels j d)) (meaning g.T.Timetable g.R.SpareRule (get_or l.levels j d)))
     × ((j : ℕ) (d : Level g.row.T.Denot g.row.R.Denot) → l.k ≤ j → get_or l.levels j d ≡ get_or l.initial.levels j d)

@@ -1,7 +1,7 @@
 use Rattle.std.proofs.Common.{ℕ, Bool, Option, ap, ◌∙◌, arith}
 use Rattle.spare.specs.declared.hold.Hold.{Hold}
 use Rattle.spare.specs.declared.queue.Queue.{Queue}
-use Rattle.spare.specs.Chosen.{CallOf}
+use Rattle.spare.specs.Asking.{CallOf}
 use Rattle.spare.specs.Example.{NewHold, TwoReady, HeldQueueStep}
 use Rattle.spare.specs.Holds.{HoldStep, repeating}
 use Rattle.spare.specs.Orders.{QueueStep, place_of}
@@ -11,7 +11,7 @@ use Rattle.spare.proofs.example.held_queue.Goals as goal
 
 -- what the queue's call says, by its own clause alone
 abbrev Whole : Queue → (ℕ → Bool) → Option ℕ → Queue → Type 0
-Whole = CallOf (λ q a. place_of a q.order) (λ q. 15) (λ q ready name q'. QueueStep q.order ready name q'.order)
+Whole = CallOf (record { distance = λ q a. place_of a q.order; patience = λ q. 15; step = λ q ready name q'. QueueStep q.order ready name q'.order })
 
 own : (h : Hold Queue) (ready : ℕ → Bool) (o : Option ℕ) (h' : Hold Queue) → HoldStep Whole h ready o h' → HeldQueueStep h ready o h'
 own h ready o h' s = hold_weaker Whole (λ q r n q'. QueueStep q.order r n q'.order) (λ x r n y w. w.1) (repeating ready h) h ready o h' s

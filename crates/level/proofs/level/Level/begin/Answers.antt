@@ -19,7 +19,7 @@ returns-in-Ok g c =
     let given = simp to_z-of_z at c.in-Ok.ensures in
     let took = simp to_z-of_z at c.take_seat.ensures in
     record {
-      called = called _ _ _ (begins g.T.Timetable.owner g.T.Timetable.cycle g.R.SpareRule.distance g.R.SpareRule.patience c.args.self.now c.args.seat c.args.activity c.args.start c.args.estimate c.args.deadline c.give.new.board c.take_seat.new.self _
+      called = called _ _ _ (begins g.T.Timetable g.R.SpareRule c.args.self.now c.args.seat c.args.activity c.args.start c.args.estimate c.args.deadline c.give.new.board c.take_seat.new.self _
           fine given.0 given.1 (ap (λ k. record { level = k; seat = c.args.seat }) took.number) took.inside took.number took.clock took.ready took.board took.seats took.used);
       timetable = refl;
       rule = refl;
@@ -33,7 +33,7 @@ returns-in-Err g c =
     let fine = simp to_z-of_z at c.in_default.ensures in
     let few = simp to_z-of_z at c.in-Err.ensures in
     record {
-      called = called _ _ _ (few_step g.T.Timetable.owner g.T.Timetable.cycle g.R.SpareRule.distance g.R.SpareRule.patience c.args.self.now c.args.seat c.args.activity c.args.start c.args.estimate c.args.deadline c.give.new.board c.in-Err.available
+      called = called _ _ _ (few_step g.T.Timetable g.R.SpareRule c.args.self.now c.args.seat c.args.activity c.args.start c.args.estimate c.args.deadline c.give.new.board c.in-Err.available
           fine few.0 few.1 few.2);
       timetable = refl;
       rule = refl;

@@ -11,7 +11,7 @@ returns g c =
     let l = c.if-not-has_left.ensures in
     let n = c.hand_ticket.ensures.number in
     record {
-      called = called _ _ _ (collects g.T.Timetable.owner g.T.Timetable.cycle g.R.SpareRule.distance g.R.SpareRule.patience c.args.self.now c.args.seat _ _ (ap (λ k. record { level = k; seat = c.args.seat }) n) l c.hand_ticket.ensures);
+      called = called _ _ _ (collects g.T.Timetable g.R.SpareRule c.args.self.now c.args.seat _ _ (ap (λ k. record { level = k; seat = c.args.seat }) n) l c.hand_ticket.ensures);
       timetable = refl;
       rule = refl;
     }

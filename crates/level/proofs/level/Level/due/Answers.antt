@@ -7,6 +7,6 @@ use Rattle.level.proofs.level.Level.due.Goals as goal
 pub returns-in-Some-runner_of : goal.returns-in-Some-runner_of
 returns-in-Some-runner_of g c =
     let fits : SFits w32 c.args.self.now.inner.clock = search rules in
-    by_mark g.T.Timetable.owner g.T.Timetable.cycle g.R.SpareRule.distance g.R.SpareRule.patience c.args.self.now c.in-Some.seat c.in-Some-runner_of.activity
+    by_mark g.T.Timetable g.R.SpareRule c.args.self.now c.in-Some.seat c.in-Some-runner_of.activity
     (ap (holder c.args.self.now.inner.board) (sym (to_z-of_z w32 _ fits)) ∙ sym c.in-Some.ensures)
     c.in-Some-runner_of.ensures

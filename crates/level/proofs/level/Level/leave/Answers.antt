@@ -10,6 +10,6 @@ pub returns : goal.returns
 returns g c =
     let out = c.if-not-accepts.ensures in
     record {
-      called = record { called = called _ _ _ (leaves g.T.Timetable.owner g.T.Timetable.cycle g.R.SpareRule.distance g.R.SpareRule.patience c.args.self.now c.args.ticket _ out c.hand_ticket.ensures); timetable = refl; rule = refl };
+      called = record { called = called _ _ _ (leaves g.T.Timetable g.R.SpareRule c.args.self.now c.args.ticket _ out c.hand_ticket.ensures); timetable = refl; rule = refl };
       back = tt;
     }

@@ -1,7 +1,7 @@
 use Rattle.std.proofs.Common.{refl, ◌∙◌, w32}
 use Rattle.std.proofs.lemmas.Int.{to_z-of_z}
 use Rattle.level.specs.Together.{Opens}
-use Rattle.level.specs.Levels.{meaning}
+use Rattle.level.specs.Levels.{meaning, opening}
 use Rattle.level.proofs.Levels.{starts}
 use Rattle.level.proofs.Seated.{not_on}
 use Rattle.level.proofs.Seen.{seen_none}
@@ -11,8 +11,8 @@ pub returns : goal.returns
 returns g c =
     let f = c.fresh.ensures in
     let t = c.args.timetable in
-    let op : Opens c.args.number (record { clock = c.args.clock; owner = g.T.Timetable.owner t; cycle = g.T.Timetable.cycle t; rule = record { distance = g.R.SpareRule.distance c.args.rule; patience = g.R.SpareRule.patience c.args.rule } })
-    (meaning g.T.Timetable.owner g.T.Timetable.cycle g.R.SpareRule.distance g.R.SpareRule.patience (record { timetable = t; rule = c.args.rule; inner = c.fresh.result })) = record {
+    let op : Opens c.args.number (opening g.T.Timetable g.R.SpareRule c.args.clock t c.args.rule)
+    (meaning g.T.Timetable g.R.SpareRule (record { timetable = t; rule = c.args.rule; inner = c.fresh.result })) = record {
       number = f.number;
       clock = f.clock ∙ to_z-of_z w32 _ c.ranges.clock;
       owner = refl;

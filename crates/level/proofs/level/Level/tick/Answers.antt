@@ -13,7 +13,7 @@ returns g c =
     let fits : SFits w32 c.args.self.now.inner.clock = search rules in
     let given = c.give_tick-runner.ensures in
     record {
-      called = called _ (ticked _) _ (ticks g.T.Timetable.owner g.T.Timetable.cycle g.R.SpareRule.distance g.R.SpareRule.patience c.args.self.now c.give_tick-runner.new.self _ _ _ _
+      called = called _ (ticked _) _ (ticks g.T.Timetable g.R.SpareRule c.args.self.now c.give_tick-runner.new.self _ _ _ _
           (to_z-of_z w32 _ fits) c.if-at_end.ensures given.given given.timetable given.inner c.advance.ensures);
       asks = given.asked;
       timetable = given.timetable;

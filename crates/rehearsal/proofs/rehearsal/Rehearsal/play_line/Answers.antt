@@ -11,9 +11,9 @@ pub returns-in-Ok-clause-goes : goal.returns-in-Ok-clause-goes
 returns-in-Ok-clause-goes g c =
     let e = c.in-Ok.ensures in
     line_goes
-    (state g.T.Timetable.owner g.T.Timetable.cycle g.R.SpareRule.distance g.R.SpareRule.patience c.args.self.now)
-    (state g.T.Timetable.owner g.T.Timetable.cycle g.R.SpareRule.distance g.R.SpareRule.patience c.read_line.new.self)
-    (state g.T.Timetable.owner g.T.Timetable.cycle g.R.SpareRule.distance g.R.SpareRule.patience c.play.new.self)
+    (state g.T.Timetable g.R.SpareRule c.args.self.now)
+    (state g.T.Timetable g.R.SpareRule c.read_line.new.self)
+    (state g.T.Timetable g.R.SpareRule c.play.new.self)
     c.in-Ok.line c.in-Ok.command c.play.result
     (record {
       due = c.requires.0;
@@ -21,7 +21,7 @@ returns-in-Ok-clause-goes g c =
       number = e.reads.0;
       says = e.reads.1;
       line = e.line refl;
-      level = ap (meaning g.T.Timetable.owner g.T.Timetable.cycle g.R.SpareRule.distance g.R.SpareRule.patience) e.level;
+      level = ap (meaning g.T.Timetable g.R.SpareRule) e.level;
     })
     e.once c.play.ensures.goes
 
@@ -29,10 +29,10 @@ pub returns-in-Ok-clause-runs : goal.returns-in-Ok-clause-runs
 returns-in-Ok-clause-runs g c =
     let e = c.in-Ok.ensures in
     line_goes_on
-    g.R.SpareRule.distance g.R.SpareRule.patience g.R.SpareRule.step
-    (standing g.T.Timetable.owner g.T.Timetable.cycle g.R.SpareRule.distance g.R.SpareRule.patience c.args.self.now)
-    (standing g.T.Timetable.owner g.T.Timetable.cycle g.R.SpareRule.distance g.R.SpareRule.patience c.read_line.new.self)
-    (standing g.T.Timetable.owner g.T.Timetable.cycle g.R.SpareRule.distance g.R.SpareRule.patience c.play.new.self)
+    g.R.SpareRule
+    (standing g.T.Timetable g.R.SpareRule c.args.self.now)
+    (standing g.T.Timetable g.R.SpareRule c.read_line.new.self)
+    (standing g.T.Timetable g.R.SpareRule c.play.new.self)
     c.in-Ok.line c.in-Ok.command c.play.result
     (record {
       due = c.requires.0;
@@ -40,6 +40,6 @@ returns-in-Ok-clause-runs g c =
       number = e.reads.0;
       says = e.reads.1;
       line = e.line refl;
-      on = ap (stage g.T.Timetable.owner g.T.Timetable.cycle g.R.SpareRule.distance g.R.SpareRule.patience) e.level;
+      on = ap (stage g.T.Timetable g.R.SpareRule) e.level;
     })
     e.once c.play.ensures.runs
