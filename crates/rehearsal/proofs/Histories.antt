@@ -1,8 +1,8 @@
 -- The calls of a rehearsal are a history of its level, of which all promises hold.
-use Rattle.std.proofs.Common.{◌≡◌, ℕ, Bool, List, [], ◌∷◌, ◌++◌, ℤ, Some, None, Option, sym, refl, ap, ◌∙◌, subst, append_assoc, append-nil}
+use Rattle.std.proofs.Common.{◌≡◌, ℕ, List, [], ◌∷◌, ◌++◌, Some, None, Option, sym, refl, ap, ◌∙◌, subst, append_assoc, append-nil}
 use Rattle.spare.specs.declared.rule.SpareRule.{Ghosts as SpareRules}
 use Rattle.level.specs.Meaning.{Meaning, Event}
-use Rattle.level.specs.Together.{Entry, Tagged, Together, nothing, called, own_history, put}
+use Rattle.level.specs.Together.{Opening, Entry, Tagged, Together, nothing, called, own_history, put}
 use Rattle.level.specs.Promises.{Stands, AllStand}
 use Rattle.level.specs.Levels.{Called, Opened}
 use Rattle.rehearsal.specs.Stages.{Stage, Through, no_more, call_then}
@@ -17,8 +17,8 @@ record Led (m : Meaning) (calls : List Event) : Type 0 where
   pub stands : Stands 0 (own_history 0 all) m
   pub calls_are : calls_in (own_history 0 all) ≡ calls
 
-led_first : {clock : ℤ} {owner : ℤ → Option ℕ} {cycle : ℕ} {distance : ℕ → ℕ} {patience : ℕ} {m : Meaning} → Opened 0 clock ts rs m → Led m []
-led_first {clock} {owner} {cycle} {distance} {patience} {m} o =
+led_first : {o : Opening} {m : Meaning} → Opened 0 o m → Led m []
+led_first {m = m} o =
     let s = o.starts [] (λ k. None) nothing refl in
     record { all = _; levels = _; together = s.0; here = refl; stands = s.1 0 m refl; calls_are = refl }
 
@@ -40,6 +40,6 @@ module _ {R : Type 0} {rs : SpareRules R} where
   led_on {calls = calls} (call_then {e = e} p' {es = es} c t) l = regrouped calls e es (led_on t (led_next l c.called))
 
   -- the history of the calls from an opening
-  pub history_of : {p q : Stage R} {es : List Event} {clock : ℤ} {owner : ℤ → Option ℕ} {cycle : ℕ} {far : ℕ → ℕ} {most : ℕ} →
-      Opened 0 clock owner cycle far most p.level → Through rs p es q → (history : List Entry) × (calls_in history ≡ es) × Stands 0 history q.level
+  pub history_of : {p q : Stage R} {es : List Event} {o : Opening} →
+      Opened 0 o p.level → Through rs p es q → (history : List Entry) × (calls_in history ≡ es) × Stands 0 history q.level
   history_of o t = let l = led_on t (led_first o) in (own_history 0 l.all, l.calls_are, l.stands)

@@ -1,5 +1,5 @@
 -- Commands that make one call or two.
-use Rattle.std.proofs.Common.{◌≡◌, ℕ, Bool, List, [], ◌∷◌, Option}
+use Rattle.std.proofs.Common.{◌≡◌, List, [], ◌∷◌}
 use Rattle.spare.specs.declared.rule.SpareRule.{Ghosts as SpareRules}
 use Rattle.level.specs.Meaning.{Event}
 use Rattle.command.specs.declared.command.Command.{Command}

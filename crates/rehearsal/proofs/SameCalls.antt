@@ -16,7 +16,7 @@ use Rattle.command.specs.declared.command.Command.{Command}
 use Rattle.command.specs.declared.command.Command.TheVariants.{Open, Wake, Block, Tick, Begin, End}
 use Rattle.rehearsal.specs.Calls.{TicksOf, all_run, one_run, stopped, leave_after, end_after, Makes, MakesAll, no_calls, then_calls}
 use Rattle.rehearsal.specs.Stages.{Stage, AsksRule, CallOn, Through, call_then}
-use Rattle.rehearsal.specs.Whole.{held_distance, held_patience, held_step}
+use Rattle.rehearsal.specs.Whole.{held}
 use Rattle.rehearsal.proofs.SameRules.{SameRule, same_on, same_meaning, hold_once}
 
 -- Levels that are the same in every part are the same.

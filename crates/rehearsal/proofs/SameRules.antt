@@ -5,7 +5,8 @@ use Rattle.spare.specs.declared.queue.Queue.{Queue}
 use Rattle.spare.specs.Holds.{choice_ready, repeating, Repeats, Takes, Asks, HoldStep}
 use Rattle.spare.specs.Orders.{first_ready, sent_back, place_of}
 use Rattle.level.specs.Meaning.{Rule}
-use Rattle.rehearsal.specs.Whole.{queue_call, held_distance, held_patience}
+use Rattle.spare.specs.Asking.{CallOf}
+use Rattle.rehearsal.specs.Whole.{queues, held}
 
 -- two holds that hold the same
 pub record SameRule (h g : Hold Queue) : Type 0 where
@@ -23,7 +24,7 @@ rule_from order repeats left = record { distance = λ a. (repeats + 1) * place_o
 
 -- and means the same
 pub same_meaning : (h g : Hold Queue) → SameRule h g →
-    ◌≡◌ {A = Rule} (record { distance = held_distance g; patience = held_patience g }) (record { distance = held_distance h; patience = held_patience h })
+    ◌≡◌ {A = Rule} (record { distance = held.distance g; patience = held.patience g }) (record { distance = held.distance h; patience = held.patience h })
 unfolding rule_from
 same_meaning h g s =
     ap (λ z. rule_from z g.repeats g.left) s.order
@@ -47,7 +48,7 @@ module _ (ready : ℕ → Bool) (h g h' g' : Hold Queue) (s : SameRule h g) (n m
   takes_once None (Some y) e a b = let z : ◌≡◌ {A = ℕ} 0 1 = cc in absurd (omega arith)
   takes_once (Some x) None e a b = let z : ◌≡◌ {A = ℕ} 0 1 = cc in absurd (omega arith)
 
-  asks_once : Asks queue_call ready h n h' → Asks queue_call ready g m g' → (m ≡ n) × SameRule h' g'
+  asks_once : Asks (CallOf queues) ready h n h' → Asks (CallOf queues) ready g m g' → (m ≡ n) × SameRule h' g'
   asks_once a b =
       let name : m ≡ n = b.asked.1.0 ∙ (ap (first_ready ready) s.order ∙ sym a.asked.1.0) in
       let kept = takes_once n m name a.takes b.takes in (
@@ -60,12 +61,12 @@ module _ (ready : ℕ → Bool) (h g h' g' : Hold Queue) (s : SameRule h g) (n m
         },
       )
 
-  pub hold_once : HoldStep queue_call h ready n h' → HoldStep queue_call g ready m g' → (m ≡ n) × SameRule h' g'
+  pub hold_once : HoldStep (CallOf queues) h ready n h' → HoldStep (CallOf queues) g ready m g' → (m ≡ n) × SameRule h' g'
   hold_once a b =
       by (repeating ready h) (repeating ready g)
       (ap (λ z. ltb 0 z && choice_ready ready g.choice) s.left ∙ ap (λ z. ltb 0 h.left && choice_ready ready z) s.choice) a b
     where
-      by : (x y : Bool) → y ≡ x → MatchBool x (Repeats h n h') (Asks queue_call ready h n h') → MatchBool y (Repeats g m g') (Asks queue_call ready g m g') → (m ≡ n) × SameRule h' g'
+      by : (x y : Bool) → y ≡ x → MatchBool x (Repeats h n h') (Asks (CallOf queues) ready h n h') → MatchBool y (Repeats g m g') (Asks (CallOf queues) ready g m g') → (m ≡ n) × SameRule h' g'
       by true true e a b = repeats_once a b
       by false false e a b = asks_once a b
       by true false e a b = let z : ◌≡◌ {A = ℕ} 0 1 = cc in absurd (omega arith)

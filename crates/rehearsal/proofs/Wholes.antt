@@ -19,7 +19,8 @@ use Rattle.spare.specs.declared.queue.Queue.{Queue}
 use Rattle.spare.specs.Orders.{in_order}
 use Rattle.level.specs.declared.level.Level.{Level}
 use Rattle.level.specs.Meaning.{Event}
-use Rattle.level.specs.Levels.{meaning, Opened}
+use Rattle.timetable.specs.declared.table.Timetable.{Ghosts as Timetables}
+use Rattle.level.specs.Levels.{meaning, opening, Opened}
 use Rattle.command.specs.declared.command.Command.{Command}
 use Rattle.command.specs.declared.command.Command.TheVariants.{Open}
 use Rattle.command.specs.Grammar.{command_text}
@@ -34,7 +35,7 @@ use Rattle.rehearsal.specs.Calls.{rows_of}
 use Rattle.rehearsal.specs.Stages.{Stage, Through}
 use Rattle.rehearsal.specs.Onwards.{Standing, line_after, malformed_row, Onwards, PlaysOut}
 use Rattle.rehearsal.specs.Runs.{BrokenOff, Runs}
-use Rattle.rehearsal.specs.Whole.{held_distance, held_patience, held_step, Fresh, Start, PlayedFrom, ScriptRows, played, all_rows, under_way, sheet_refused, on_sheet, output_of, TellsScript, Tells}
+use Rattle.rehearsal.specs.Whole.{held, Fresh, Start, PlayedFrom, ScriptRows, played, all_rows, under_way, sheet_refused, on_sheet, output_of, TellsScript, Tells}
 use Rattle.rehearsal.proofs.PlayedOut.{no_ticks}
 use Rattle.rehearsal.proofs.Histories.{history_of}
 
@@ -59,13 +60,13 @@ starts_at s text on t l k o =
     ∙ (ap (λ z. state_of text 2 z s.on) k ∙ ap (λ z. state_of text 2 0 z) o))
 
 -- a level that was just opened over a rule holds that rule
-pub opened_with : {T : Type 0} (ownerOf : T → ℤ → Option ℕ) (cycleOf : T → ℕ) (t : T) (l : Level T (Hold Queue)) (rule : Hold Queue) (clock given : ℤ) → given ≡ clock → l.rule ≡ rule →
-    Opened 0 given (ownerOf t) (cycleOf t) (held_distance rule) (held_patience rule) (meaning ownerOf cycleOf held_distance held_patience l) →
-    Opened 0 clock (ownerOf t) (cycleOf t) (held_distance l.rule) (held_patience l.rule) (meaning ownerOf cycleOf held_distance held_patience l)
-opened_with ownerOf cycleOf t l rule clock given c r o =
-    let m = meaning ownerOf cycleOf held_distance held_patience l in
-    subst (λ (z : ℤ). Opened 0 z (ownerOf t) (cycleOf t) (held_distance l.rule) (held_patience l.rule) m) c
-    (subst (λ (z : Hold Queue). Opened 0 given (ownerOf t) (cycleOf t) (held_distance z) (held_patience z) m) (sym r) o)
+pub opened_with : {T : Type 0} (ts : Timetables T) (t : T) (l : Level T (Hold Queue)) (rule : Hold Queue) (clock given : ℤ) → given ≡ clock → l.rule ≡ rule →
+    Opened 0 (opening ts held given t rule) (meaning ts held l) →
+    Opened 0 (opening ts held clock t l.rule) (meaning ts held l)
+opened_with ts t l rule clock given c r o =
+    let m = meaning ts held l in
+    subst (λ (z : ℤ). Opened 0 (opening ts held z t l.rule) m) c
+    (subst (λ (z : Hold Queue). Opened 0 (opening ts held given t z) m) (sym r) o)
 
 -- the rule of a script is fresh
 pub fresh_with : (h rule : Hold Queue) (queue : Queue) (repeats : ℕ) → h ≡ rule → rule.below ≡ queue → queue.order ≡ in_order → rule.repeats ≡ repeats → rule.choice ≡ None → rule.left ≡ 0 → Fresh repeats h

@@ -1,5 +1,5 @@
 -- What comes of a rehearsal that is played to its end, its rows handed to a sink.
-use Rattle.std.specs.Prelude.{◌≡◌, ℕ, Bool, List, [], ◌++◌, Ok, Err, Option, Result}
+use Rattle.std.specs.Prelude.{◌≡◌, ℕ, List, [], ◌++◌, Ok, Err, Result}
 use Rattle.spare.specs.declared.rule.SpareRule.{Ghosts as SpareRules}
 use Rattle.row.specs.declared.row.Row.{Row}
 use Rattle.row.specs.Sinks.{rows_text, Handed}

@@ -1,5 +1,5 @@
 -- Commands played on a level, the spare rule itself followed beside it.
-use Rattle.std.specs.Prelude.{◌≡◌, ℕ, Bool, List, [], ◌∷◌, ℤ, Some, None, Option, Result}
+use Rattle.std.specs.Prelude.{◌≡◌, ℕ, Bool, List, [], ◌∷◌, Some, None, Option, Result}
 use Rattle.timetable.specs.declared.table.Timetable.{Ghosts as Timetables}
 use Rattle.spare.specs.declared.rule.SpareRule.{Ghosts as SpareRules}
 use Rattle.spare.specs.Asking.{CallOf}
@@ -36,7 +36,7 @@ AsksRule asks ready q (refused c r) q' = q' ≡ q
 pub record CallOn {R : Type 0} (rs : SpareRules R) (p : Stage R) (e : Event) (p' : Stage R) : Type 0 where
   pub called : Called p.level e p'.level
   pub rule : AsksRule (CallOf rs) p.level.ready p.rule e p'.rule
-  pub means : p'.level.rule ≡ record { distance = distance p'.rule; patience = patience p'.rule }
+  pub means : p'.level.rule ≡ record { distance = rs.distance p'.rule; patience = rs.patience p'.rule }
 
 -- one call after another
 pub data Through {R : Type 0} (rs : SpareRules R) : Stage R → List Event → Stage R → Type 0 where

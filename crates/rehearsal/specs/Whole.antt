@@ -1,5 +1,5 @@
 -- A whole rehearsal, from the bytes of a sheet and of a script to its rows.
-use Rattle.std.specs.Prelude.{◌≡◌, ℕ, ◌+◌, ◌*◌, ◌^◌, ◌≤◌, Bool, List, [], ◌∷◌, ◌++◌, length, ℤ, None, Ok, Err, Option, Result, ◌≢◌}
+use Rattle.std.specs.Prelude.{◌≡◌, ℕ, ◌+◌, ◌*◌, ◌^◌, ◌≤◌, List, [], ◌∷◌, ◌++◌, length, ℤ, None, Ok, Err, Option, Result, ◌≢◌}
 use Rattle.plan.specs.declared.fault.PlanFault.TheVariants.{Memory as NoMemory}
 use Rattle.plan.specs.Owners as plan
 use Rattle.plan.specs.Told as plan-told
@@ -9,6 +9,7 @@ use Rattle.sheet.specs.declared.fault.SheetFault.TheVariants.{Plan}
 use Rattle.sheet.specs.Told.{Holds, Refused}
 use Rattle.spare.specs.declared.hold.Hold.{Hold}
 use Rattle.spare.specs.declared.queue.Queue.{Queue}
+use Rattle.spare.specs.declared.rule.SpareRule.{Ghosts as SpareRules}
 use Rattle.spare.specs.Asking.{CallOf}
 use Rattle.spare.specs.Holds.{HoldStep}
 use Rattle.spare.specs.Orders.{QueueStep, place_of, in_order}
@@ -33,17 +34,19 @@ use Rattle.rehearsal.specs.Runs.{BrokenOff}
 
 -- The spare rule of a rehearsal, a queue under a hold.
 
-abbrev pub queue_call : Queue → (ℕ → Bool) → Option ℕ → Queue → Type 0
-queue_call = CallOf (λ q a. place_of a q.order) (λ q. 15) (λ q ready name q'. QueueStep q.order ready name q'.order)
+abbrev pub queues : SpareRules Queue
+queues = record {
+  distance = λ q a. place_of a q.order;
+  patience = λ q. 15;
+  step = λ q ready name q'. QueueStep q.order ready name q'.order;
+}
 
-abbrev pub held_distance : Hold Queue → ℕ → ℕ
-held_distance h a = (h.repeats + 1) * place_of a h.below.order + h.left
-
-abbrev pub held_patience : Hold Queue → ℕ
-held_patience h = (h.repeats + 1) * 15 + h.repeats
-
-abbrev pub held_step : Hold Queue → (ℕ → Bool) → Option ℕ → Hold Queue → Type 0
-held_step = HoldStep queue_call
+abbrev pub held : SpareRules (Hold Queue)
+held = record {
+  distance = λ h a. (h.repeats + 1) * place_of a h.below.order + h.left;
+  patience = λ h. (h.repeats + 1) * 15 + h.repeats;
+  step = HoldStep (CallOf queues);
+}
 
 -- a hold of so many repeats over the queue 0 to 15, before its first choice
 pub record Fresh (repeats : ℕ) (h : Hold Queue) : Type 0 where
@@ -62,7 +65,7 @@ pub record Start (owner : ℤ → Option ℕ) (cycle : ℕ) (script : List ℕ) 
   pub text : List ℕ
   pub opens : Begins script (Open clock repeats) text
   pub first : Stage (Hold Queue)
-  pub opening : Opened 0 clock owner cycle (held_distance first.rule) (held_patience first.rule) first.level
+  pub opening : Opened 0 (record { clock = clock; owner = owner; cycle = cycle; rule = record { distance = held.distance first.rule; patience = held.patience first.rule } }) first.level
   pub fresh : Fresh repeats first.rule
 
 -- the calls of a history, the oldest first

@@ -6,35 +6,34 @@ use Rattle.row.specs.declared.row.Row.TheVariants.{Malformed}
 use Rattle.row.specs.Rows.{row_text}
 use Rattle.rehearsal.specs.Stages.{stage}
 use Rattle.rehearsal.specs.Onwards.{standing}
-use Rattle.rehearsal.specs.Whole.{held_distance, held_patience, Start, unopened}
+use Rattle.rehearsal.specs.Whole.{held, Start, unopened}
 use Rattle.rehearsal.proofs.OnlyRows.{script_rows_once}
 use Rattle.rehearsal.proofs.Wholes.{tells_script, tells_alone, starts_at, opened_with, fresh_with}
 use Rattle.rehearsal.proofs.whole.rehearse_on.Goals as goal
 
 pub returns-in-Ok : goal.returns-in-Ok
 returns-in-Ok g c =
-    let owner = g.T.Timetable.owner in
-    let cycle = g.T.Timetable.cycle in
+    let ts = g.T.Timetable in
     let f = c.in-Ok.ensures in
     let o = c.open-level.ensures in
     let n = c.new-rehearsal.ensures in
     let fits : SFits w32 c.in-Ok.opening.clock = search rules in
-    let start : Start (owner c.args.timetable) (cycle c.args.timetable) c.args.script.now = record {
+    let start : Start (ts.owner c.args.timetable) (ts.cycle c.args.timetable) c.args.script.now = record {
       short = f.short;
       clock = c.in-Ok.opening.clock;
       repeats = c.in-Ok.opening.repeats;
       text = rest c.in-Ok.opening.reader;
       opens = f.says;
-      first = stage owner cycle held_distance held_patience c.open-level.result;
-      opening = opened_with owner cycle c.args.timetable c.open-level.result c.new-rule.result c.in-Ok.opening.clock _ (to_z-of_z w32 _ fits) o.rule o.opened;
+      first = stage ts held c.open-level.result;
+      opening = opened_with ts c.args.timetable c.open-level.result c.new-rule.result c.in-Ok.opening.clock _ (to_z-of_z w32 _ fits) o.rule o.opened;
       fresh = fresh_with c.open-level.result.rule c.new-rule.result c.new.result c.in-Ok.opening.repeats o.rule
           c.new-rule.ensures.below c.new.ensures c.new-rule.ensures.repeats c.new-rule.ensures.choice c.new-rule.ensures.left;
     } in
-    let here = starts_at (standing owner cycle held_distance held_patience c.new-rehearsal.result) (rest c.in-Ok.opening.reader) (stage owner cycle held_distance held_patience c.open-level.result)
-    n.reader (n.line ∙ f.line) n.ticks (ap (stage owner cycle held_distance held_patience) n.level) in
+    let here = starts_at (standing ts held c.new-rehearsal.result) (rest c.in-Ok.opening.reader) (stage ts held c.open-level.result)
+    n.reader (n.line ∙ f.line) n.ticks (ap (stage ts held) n.level) in
     record {
-      told = tells_script start g.S.Sink.hands (standing owner cycle held_distance held_patience c.new-rehearsal.result) here c.args.sink.now c.run.result
-          (standing owner cycle held_distance held_patience c.run.new.self) c.run.new.sink c.run.ensures;
+      told = tells_script start g.S.Sink.hands (standing ts held c.new-rehearsal.result) here c.args.sink.now c.run.result
+          (standing ts held c.run.new.self) c.run.new.sink c.run.ensures;
       once = script_rows_once;
     }
 
