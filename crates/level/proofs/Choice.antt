@@ -186,27 +186,7 @@ module _ (owner : ℤ → Option ℕ) (a seat : ℕ) (clock start deadline : ℤ
   pub given : Given clock owner a seat start deadline many b0 b2
   given = (marked, choice owner a start deadline n many b0 ends enough, marks)
 
--- what the code tells of the window, whose start it has as a 32-bit number
-module _ (b0 owner : ℤ → Option ℕ) (a n : ℕ) {s start : ℤ} (e : s ≡ start) where
-  pub own_at : {r : ℕ} → r ≡ tally (own_from b0 owner a s) n → r ≡ tally (own_from b0 owner a start) n
-  own_at h = h ∙ ap (λ x. tally (own_from b0 owner a x) n) e
-
-  pub free_at : {r : ℕ} → r ≡ tally (free_from b0 owner a s) n → r ≡ tally (free_from b0 owner a start) n
-  free_at h = h ∙ ap (λ x. tally (free_from b0 owner a x) n) e
-
-  pub pass_at :
-      {many more own free seat : ℕ} {b b' : ℤ → Option ℕ} →
-      Passed (own_from b0 owner a s) (free_from b0 owner a s) s n many more own free seat b b' → Passed (own_from b0 owner a start) (free_from b0 owner a start) start n many more own free seat b b'
-  pass_at {many} {more} {own} {free} {seat} {b} {b'} h =
-      subst (λ x. Passed (own_from b0 owner a x) (free_from b0 owner a x) x n many more own free seat b b') e h
-
--- the pass at its end
-pub pass_end :
-    (b0 owner : ℤ → Option ℕ) (a : ℕ) {s start : ℤ} → s ≡ start → {k n : ℕ} → k ≡ n → {many more own free seat : ℕ} {b b' : ℤ → Option ℕ} →
-    Passed (own_from b0 owner a s) (free_from b0 owner a s) s k many more own free seat b b' → Passed (own_from b0 owner a start) (free_from b0 owner a start) start n many more own free seat b b'
-pass_end b0 owner a {s} {start} e {k} {n} f {many} {more} {own} {free} {seat} {b} {b'} h =
-    pass_at b0 owner a n e (subst (λ x. Passed (own_from b0 owner a s) (free_from b0 owner a s) s x many more own free seat b b') f h)
-
+-- own and free ones together are those available
 pub sum_at :
     (owner : ℤ → Option ℕ) (a : ℕ) (start deadline : ℤ) (n : ℕ) → start +ℤ pos n ≡ deadline → (b0 : ℤ → Option ℕ) {own free : ℕ} →
     own ≡ tally (own_from b0 owner a start) n → free ≡ tally (free_from b0 owner a start) n → own + free ≡ between (is_available b0 owner a) start deadline

@@ -1,23 +1,25 @@
 -- From what the code does with seats and tickets to the steps of begin, end, leave and collect.
-use Rattle.std.proofs.Common.{◌≡◌, ℕ, ◌<◌, ◌≤◌, Bool, true, false, cond, eqb, length, get_or, set, ℤ, Some, None, Option, sym, refl, ap, ◌∙◌, subst, ⊎_elim}
+use Rattle.std.proofs.Common.{◌≡◌, ℕ, ◌≤◌, Bool, true, false, cond, eqb, get_or, ℤ, Some, None, Ok, Err, sym, refl, ap, ◌∙◌, subst, ⊎_elim}
 use Rattle.timetable.specs.declared.table.Timetable.{Ghosts as Timetables}
 use Rattle.spare.specs.declared.rule.SpareRule.{Ghosts as SpareRules}
 use Rattle.std.proofs.lemmas.Bool.{cond-true, cond-false, eq-eqb, ne_eqb, cases_eq}
+use Rattle.std.proofs.lemmas.List.{get_or-set_same, get_or-set_other}
 use Rattle.spare.specs.Sets.{is_ready}
 use Rattle.level.specs.declared.board.Board.{Board}
 use Rattle.level.specs.declared.inner.Inner.{Inner}
 use Rattle.level.specs.declared.level.Level.{Level}
-use Rattle.level.specs.declared.refusal.Refusal.TheVariants.{TooFew}
+use Rattle.level.specs.declared.refusal.Refusal.{Refusal}
 use Rattle.level.specs.declared.ticket.Ticket.{Ticket}
+use Rattle.level.specs.Bounds.{RanBound, UsedBound}
 use Rattle.level.specs.Board.{holder}
-use Rattle.level.specs.Seats.{no_seat, taken, handed}
-use Rattle.level.specs.Ticks.{between, is_available, Given}
-use Rattle.level.specs.Meaning.{Meaning, to_begin, began, ended, left, collected, refused}
+use Rattle.level.specs.Seats.{seat_at, handed}
+use Rattle.level.specs.Ticks.{Gives}
+use Rattle.level.specs.Meaning.{Constraint, Event, to_begin, began, ended, left, collected, refused}
+use Rattle.level.specs.Refusals.{Refused}
 use Rattle.level.specs.Steps.{Step, Beside, Handed}
-use Rattle.level.specs.Levels.{meaning, seen, seat_at}
-use Rattle.level.specs.Parts.{Reseat, Freed, TicketIsOut, TicketIsLeft, Fine}
-use Rattle.level.proofs.Refusing.{end_sound, leave_sound, collect_sound, fine_sound, fine_few}
-use Rattle.level.proofs.Seated.{in_use_held, seat_at_lem, seat_set, seat_unset}
+use Rattle.level.specs.Levels.{meaning, seen, Calls}
+use Rattle.level.specs.Parts.{Reseat, ran_of, Freed, TicketIsOut, TicketIsLeft, Fine}
+use Rattle.level.proofs.Refusing.{called, end_sound, leave_sound, collect_sound, fine_sound, fine_few}
 use Rattle.level.proofs.Seen.{seen_gone, seen_else, count_seen, chosen_seen, marks_seen}
 
 -- one value of a set is put to `to`, and the others stay
@@ -33,6 +35,10 @@ module _ {T R : Type 0} (ts : Timetables T) (rs : SpareRules R) where
   abbrev pub within : Level T R → Inner → Level T R
   within l j = record { timetable = l.timetable; rule = l.rule; inner = j }
 
+  -- a call that leaves timetable and rule alone
+  pub calls : (l : Level T R) (e : Event) (j : Inner) → Step (meaning ts rs l) e (meaning ts rs (within l j)) → Calls ts rs l e (within l j)
+  calls l e j s = record { called = called _ e _ s; timetable = refl; rule = refl }
+
   beside : (l : Level T R) (j : Inner) → j.number ≡ l.inner.number → j.clock ≡ l.inner.clock → j.ready ≡ l.inner.ready → j.used ≡ l.inner.used →
       Beside (meaning ts rs l) (meaning ts rs (within l j))
   beside l j en ec er eu = record {
@@ -43,93 +49,96 @@ module _ {T R : Type 0} (ts : Timetables T) (rs : SpareRules R) where
     rule = refl;
   }
 
-  hands : (o : Bool) (l : Level T R) (s : ℕ) (j : Inner) → s < 16 → (get_or l.inner.seats s no_seat).in_use ≡ true →
-      Reseat l.inner s (handed o (get_or l.inner.seats s no_seat)) j →
+  hands : (o : Bool) (l : Level T R) (s : ℕ) (h : Constraint) (j : Inner) → seat_at l.inner.seats s ≡ Some h →
+      Reseat l.inner s (handed o (seat_at l.inner.seats s)) j →
       Handed (meaning ts rs l) s o (meaning ts rs (within l j))
-  hands o l s j small on e = record {
+  hands o l s h j at e = record {
     beside = beside l j e.number e.clock e.ready e.used;
-    was = in_use_held (get_or l.inner.seats s no_seat);
-    at = seat_at_lem l.inner.seats s small on;
+    was = h;
+    at = at;
     seat = record {
-      seat = ap (λ xs. seat_at xs s) e.seats ∙ seat_set l.inner.seats s _ e.inside small ∙ cond-true (get_or l.inner.seats s no_seat).in_use _ None on;
-      others = λ k ne. ap (λ xs. seat_at xs k) e.seats ∙ seat_unset l.inner.seats s _ k ne;
+      seat = ap (λ xs. seat_at xs s) e.seats ∙ get_or-set_same l.inner.seats s _ None e.inside ∙ ap (handed o) at;
+      others = λ k ne. ap (λ xs. seat_at xs k) e.seats ∙ get_or-set_other l.inner.seats s k _ None ne;
     };
     marks = ap (λ c. seen c (holder j.board)) e.clock ∙ ap (λ b. seen l.inner.clock (holder b)) e.board;
   }
 
-  pub leaves : (l : Level T R) (x : Ticket) (j : Inner) → TicketIsOut l.inner x →
-      Reseat l.inner x.seat (handed false (get_or l.inner.seats x.seat no_seat)) j →
+  pub leaves : (l : Level T R) (x : Ticket) (j : Inner) (o : TicketIsOut l.inner x) →
+      Reseat l.inner x.seat (handed false (seat_at l.inner.seats x.seat)) j →
       Step (meaning ts rs l) (left x) (meaning ts rs (within l j))
-  leaves l x j o e =
-      (leave_sound _ x _ o.here (seat_at_lem l.inner.seats x.seat o.known o.held) o.out, hands false l x.seat j o.known o.held e)
+  leaves l x j o e = (leave_sound _ x _ o.here o.at o.out, hands false l x.seat o.held j o.at e)
 
   pub collects : (l : Level T R) (s : ℕ) (j : Inner) (x : Ticket) → x ≡ record { level = l.inner.number; seat = s } → TicketIsLeft l.inner s →
-      Reseat l.inner s (handed true (get_or l.inner.seats s no_seat)) j →
+      Reseat l.inner s (handed true (seat_at l.inner.seats s)) j →
       Step (meaning ts rs l) (collected s x) (meaning ts rs (within l j))
-  collects l s j x ex o e =
-      (collect_sound _ s _ o.known (seat_at_lem l.inner.seats s o.known o.held) o.here, hands true l s j o.known o.held e, ex)
+  collects l s j x ex o e = (collect_sound _ s _ o.known o.at o.here, hands true l s o.held j o.at e, ex)
 
   pub ends : (l : Level T R) (x : Ticket) (j : Inner) (n : ℕ) → TicketIsOut l.inner x → Freed l.inner x.seat n j →
       Step (meaning ts rs l) (ended x n) (meaning ts rs (within l j))
   ends l x j n o e = (
-    end_sound _ x _ o.here (seat_at_lem l.inner.seats x.seat o.known o.held) o.out,
+    end_sound _ x _ o.here o.at o.out,
     record {
       beside = beside l j e.number e.clock e.ready e.used;
-      was = in_use_held (get_or l.inner.seats x.seat no_seat);
-      at = seat_at_lem l.inner.seats x.seat o.known o.held;
-      told = e.ran;
+      was = o.held;
+      at = o.at;
+      told = e.ran ∙ ap ran_of o.at;
       seat = record {
-        seat = ap (λ xs. seat_at xs x.seat) e.seats ∙ seat_set l.inner.seats x.seat e.to e.inside o.known ∙ cond-false e.to.in_use (Some (in_use_held e.to)) None e.unused;
-        others = λ k ne. ap (λ xs. seat_at xs k) e.seats ∙ seat_unset l.inner.seats x.seat e.to k ne;
+        seat = ap (λ xs. seat_at xs x.seat) e.seats ∙ get_or-set_same l.inner.seats x.seat None None e.inside;
+        others = λ k ne. ap (λ xs. seat_at xs k) e.seats ∙ get_or-set_other l.inner.seats x.seat k None None ne;
       };
       gone = λ u q. ap (λ c. seen c (holder j.board) u) e.clock ∙ seen_gone l.inner.clock (holder l.inner.board) (holder j.board) x.seat e.board u q;
       others = λ u q. ap (λ c. seen c (holder j.board) u) e.clock ∙ seen_else l.inner.clock (holder l.inner.board) (holder j.board) x.seat e.board u q;
     },
   )
 
-  pub begins :
-      (l : Level T R) (s a : ℕ) (t : ℤ) (e : ℕ) (d : ℤ) (b : Board) (j : Inner) (x : Ticket) → Fine (meaning ts rs l) s a t e d →
-      e ≤ between (is_available (holder l.inner.board) (ts.owner l.timetable) a) t d →
-      Given l.inner.clock (ts.owner l.timetable) a s t d e (holder l.inner.board) (holder b) →
-      x ≡ record { level = l.inner.number; seat = s } → s < length l.inner.seats →
-      j.number ≡ l.inner.number → j.clock ≡ l.inner.clock → j.ready ≡ l.inner.ready → j.board ≡ b → j.seats ≡ set l.inner.seats s (taken a t d e) → j.used ≡ l.inner.used →
-      Step (meaning ts rs l) (began s a t e d x) (meaning ts rs (within l j))
-  begins l s a t e d b j x f enough g ex lt en ec er eb es eu =
-      let c = l.inner.clock in
-      let h = holder l.inner.board in
-      let w = ts.owner l.timetable in (
-        fine_sound _ s a t e d f (subst (λ k. e ≤ k) (sym (count_seen c t d h w a f.from f.to f.near)) enough),
-        record {
-          beside = beside l j en ec er eu;
-          ticket = ex;
-          seat = record {
-            seat = ap (λ xs. seat_at xs s) es ∙ seat_set l.inner.seats s (taken a t d e) lt f.seat;
-            others = λ k ne. ap (λ xs. seat_at xs k) es ∙ seat_unset l.inner.seats s (taken a t d e) k ne;
-          };
-          chosen = g.0;
-          choice = chosen_seen c t d h w a f.from f.to f.near e g.0 _ g.1;
-          marks = λ u. ap (λ z. seen z (holder j.board) u) ec ∙ ap (λ z. seen c (holder z) u) eb ∙ marks_seen c t d h w a f.from f.to f.near s (holder b) e g.0 _ g.1 g.2 u;
-        },
-      )
+  -- the constraint of a begin
+  abbrev asked : ℕ → ℤ → ℕ → ℤ → Constraint
+  asked a t e d = record { activity = a; start = t; deadline = d; estimate = e; ran = 0; out = true }
 
-  -- the level l, with another board
-  abbrev pub reboarded : Level T R → Board → Meaning
-  reboarded l b = record {
-    number = l.inner.number;
-    clock = l.inner.clock;
-    owner = ts.owner l.timetable;
-    cycle = ts.cycle l.timetable;
-    ready = is_ready l.inner.ready;
-    seats = seat_at l.inner.seats;
-    marks = seen l.inner.clock (holder b);
-    used = λ a. get_or l.inner.used a 0;
-    rule = record { distance = rs.distance l.rule; patience = rs.patience l.rule };
-  }
+  module _ (l : Level T R) (s a : ℕ) (t : ℤ) (e : ℕ) (d : ℤ) (f : Fine (meaning ts rs l) s a t e d) (b : Board) where
+    -- the plain part of the level, with the board b
+    abbrev reboarded : RanBound l.inner.clock l.inner.seats → UsedBound l.inner.clock l.inner.used → Inner
+    reboarded few little = record { number = l.inner.number; clock = l.inner.clock; ready = l.inner.ready; board = b; seats = l.inner.seats; used = l.inner.used; few = few; little = little }
 
-  pub few_step :
-      (l : Level T R) (s a : ℕ) (t : ℤ) (e : ℕ) (d : ℤ) (b : Board) (k : ℕ) → Fine (meaning ts rs l) s a t e d → k < e →
-      k ≡ between (is_available (holder l.inner.board) (ts.owner l.timetable) a) t d → b ≡ l.inner.board →
-      Step (meaning ts rs l) (refused (to_begin s a t e d) (TooFew k)) (reboarded l b)
-  few_step l s a t e d b k f lt q eb =
-      let r = fine_few (meaning ts rs l) s a t e d f k (q ∙ sym (count_seen l.inner.clock t d (holder l.inner.board) (ts.owner l.timetable) a f.from f.to f.near)) lt in
-      record { wrong = r.wrong; least = r.least; same = ap (reboarded l) eb }
+    seated : (few : RanBound l.inner.clock l.inner.seats) (little : UsedBound l.inner.clock l.inner.used) (j : Inner) → Gives (ts.owner l.timetable) s (asked a t e d) l.inner.board b (Ok tt) →
+        Reseat (reboarded few little) s (Some (asked a t e d)) j →
+        Step (meaning ts rs l) (began s a t e d (record { level = j.number; seat = s })) (meaning ts rs (within l j))
+    seated few little j (enough, gives) r =
+        let c = l.inner.clock in
+        let h = holder l.inner.board in
+        let w = ts.owner l.timetable in
+        let g = gives c f.from f.near in (
+          fine_sound _ s a t e d f (subst (λ k. e ≤ k) (sym (count_seen c t d h w a f.from f.to f.near)) enough),
+          record {
+            beside = beside l j r.number r.clock r.ready r.used;
+            ticket = ap (λ k. record { level = k; seat = s }) r.number;
+            seat = record {
+              seat = ap (λ xs. seat_at xs s) r.seats ∙ get_or-set_same l.inner.seats s (Some (asked a t e d)) None r.inside;
+              others = λ k ne. ap (λ xs. seat_at xs k) r.seats ∙ get_or-set_other l.inner.seats s k (Some (asked a t e d)) None ne;
+            };
+            chosen = g.0;
+            choice = chosen_seen c t d h w a f.from f.to f.near e g.0 _ g.1;
+            marks = λ u. ap (λ z. seen z (holder j.board) u) r.clock ∙ ap (λ z. seen c (holder z) u) r.board ∙ marks_seen c t d h w a f.from f.to f.near s (holder b) e g.0 _ g.1 g.2 u;
+          },
+        )
+
+    -- the seat and the constraint that a begin was admitted with are given their ticks
+    pub begins : (few : RanBound l.inner.clock l.inner.seats) (little : UsedBound l.inner.clock l.inner.used) (place : ℕ) (h : Constraint) (j : Inner) → ◌≡◌ {A = ℕ × Constraint} (place, h) (s, asked a t e d) →
+        Gives (ts.owner l.timetable) place h l.inner.board b (Ok tt) → Reseat (reboarded few little) place (Some h) j →
+        Step (meaning ts rs l) (began s a t e d (record { level = j.number; seat = place })) (meaning ts rs (within l j))
+    begins few little place h j is =
+        subst (λ p. Gives (ts.owner l.timetable) p.0 p.1 l.inner.board b (Ok tt) → Reseat (reboarded few little) p.0 (Some p.1) j →
+        Step (meaning ts rs l) (began s a t e d (record { level = j.number; seat = p.0 })) (meaning ts rs (within l j))) (sym is) (seated few little j)
+
+    too_few_of : (r : Refusal) → Gives (ts.owner l.timetable) s (asked a t e d) l.inner.board b (Err r) →
+        Step (meaning ts rs l) (refused (to_begin s a t e d) r) (meaning ts rs (within l (reboarded l.inner.few l.inner.little)))
+    too_few_of r (k, told, lt, q, same) =
+        let x = fine_few (meaning ts rs l) s a t e d f k (q ∙ sym (count_seen l.inner.clock t d (holder l.inner.board) (ts.owner l.timetable) a f.from f.to f.near)) lt in
+        subst (λ y. Refused (meaning ts rs l) (to_begin s a t e d) y (meaning ts rs (within l (reboarded l.inner.few l.inner.little)))) (sym told)
+        (record { wrong = x.wrong; least = x.least; same = ap (λ z. meaning ts rs (within l (record { number = l.inner.number; clock = l.inner.clock; ready = l.inner.ready; board = z; seats = l.inner.seats; used = l.inner.used; few = l.inner.few; little = l.inner.little }))) same })
+
+    -- or they are too few
+    pub begins_not : (place : ℕ) (h : Constraint) (r : Refusal) → ◌≡◌ {A = ℕ × Constraint} (place, h) (s, asked a t e d) → Gives (ts.owner l.timetable) place h l.inner.board b (Err r) →
+        Step (meaning ts rs l) (refused (to_begin s a t e d) r) (meaning ts rs (within l (reboarded l.inner.few l.inner.little)))
+    begins_not place h r is =
+        subst (λ p. Gives (ts.owner l.timetable) p.0 p.1 l.inner.board b (Err r) → Step (meaning ts rs l) (refused (to_begin s a t e d) r) (meaning ts rs (within l (reboarded l.inner.few l.inner.little)))) (sym is) (too_few_of r)

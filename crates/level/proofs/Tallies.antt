@@ -1,7 +1,8 @@
 -- Counting, and picking the first of those that pass a test.
-use Rattle.std.proofs.Common.{◌≡◌, ℕ, zero, suc, ◌+◌, ◌-◌, ◌<◌, ◌≤◌, min, Bool, true, false, ◌&&◌, ◌||◌, ltb, ◌⊎◌, refl, ap, inl, inr, ⊎_elim, add-zero, add-suc, add-one, arith}
+use Rattle.std.proofs.Common.{◌≡◌, ℕ, zero, suc, ◌+◌, ◌-◌, ◌<◌, ◌≤◌, min, Bool, true, false, ◌&&◌, ◌||◌, ltb, ◌⊎◌, ℤ, pos, ◌+ℤ◌, ◌-ℤ◌, ◌≤ℤ◌, nat_abs, sym, refl, ap, ◌∙◌, inl, inr, ⊎_elim, add-zero, add-suc, add-one, arith}
 use Rattle.std.proofs.lemmas.Bool.{lt-ltb, le-ltb, ltb-true, ltb-false, cases_lt, and_parts, and_cases, or_cases, or_parts, true≢false, both_ways}
-use Rattle.level.specs.Ticks.{one, tally}
+use Rattle.std.proofs.lemmas.Int.{ints}
+use Rattle.level.specs.Ticks.{one, tally, between}
 use Rattle.level.specs.Pass.{picked}
 
 pub tally_more : (p : ℕ → Bool) (k : ℕ) → tally p (k + 1) ≡ tally p k + one (p k)
@@ -9,6 +10,14 @@ tally_more p k = rw (add-one k)
 
 pub tally_counts : (p : ℕ → Bool) (k n n' : ℕ) (b : Bool) → n ≡ tally p k → b ≡ p k → n' ≡ n + one b → n' ≡ tally p (k + 1)
 tally_counts p k n n' b e f h = let m = tally_more p k in let o : one b ≡ one (p k) = ap one f in omega arith
+
+-- one tick more between two
+pub between_counts : (p : ℤ → Bool) (from t u : ℤ) (n n' : ℕ) (b : Bool) → from ≤ℤ t → u ≡ t +ℤ pos 1 → n ≡ between p from t → b ≡ p t → n' ≡ n + one b → n' ≡ between p from u
+between_counts p from t u n n' b l e f g h =
+    let k : ℕ = nat_abs (t -ℤ from) in
+    let at : from +ℤ pos k ≡ t = omega (arith, ints) in
+    let ek : nat_abs (u -ℤ from) ≡ k + 1 = omega (arith, ints) in
+    tally_counts (λ j. p (from +ℤ pos j)) k n n' b f (g ∙ ap p (sym at)) h ∙ ap (tally (λ j. p (from +ℤ pos j))) (sym ek)
 
 pub tally_ext : (p q : ℕ → Bool) (n : ℕ) → ((k : ℕ) → k < n → p k ≡ q k) → tally p n ≡ tally q n
 tally_ext p q zero h = refl

@@ -1,5 +1,5 @@
 -- From what the code does at a tick to the step of a tick.
-use Rattle.std.proofs.Common.{◌≡◌, ℕ, ◌+◌, ◌<◌, true, false, cond, ltb, get_or, ℤ, pos, ◌+ℤ◌, Some, None, Option, sym, refl, ap, ◌∙◌, subst}
+use Rattle.std.proofs.Common.{◌≡◌, ℕ, ◌+◌, true, false, cond, get_or, ℤ, pos, ◌+ℤ◌, Some, None, Option, sym, refl, ap, ◌∙◌, subst}
 use Rattle.timetable.specs.declared.table.Timetable.{Ghosts as Timetables}
 use Rattle.spare.specs.declared.rule.SpareRule.{Ghosts as SpareRules}
 use mathlib.Core.Path.{fun_ext}
@@ -10,32 +10,29 @@ use Rattle.level.specs.declared.inner.Inner.{Inner}
 use Rattle.level.specs.declared.level.Level.{Level}
 use Rattle.level.specs.declared.ticked.Letter.{Letter}
 use Rattle.level.specs.declared.ticked.Letter.TheVariants.{Constrained, Reserved, Spare, Idle}
+use Rattle.level.specs.declared.ticked.Ticked.{Ticked}
 use Rattle.level.specs.Board.{holder, turned}
-use Rattle.level.specs.Seats.{no_seat, one_more}
+use Rattle.level.specs.Seats.{seat_at, one_more}
 use Rattle.level.specs.Ticks.{one, is}
 use Rattle.level.specs.Meaning.{Constraint, Meaning, ticked}
 use Rattle.level.specs.Steps.{Step, By, ByMark, one_more_run}
 use Rattle.level.specs.Promises.{is_for}
-use Rattle.level.specs.Levels.{meaning, held_of}
+use Rattle.level.specs.Levels.{meaning}
 use Rattle.level.specs.Parts.{RunnerOf, GivenTo, Advanced}
 use Rattle.level.proofs.Refusing.{tick_sound}
-use Rattle.level.proofs.Seated.{in_use_held, seat_at_lem, more_at}
 use Rattle.level.proofs.Seen.{seen_here, seen_spent, seen_others}
 
 module _ {T R : Type 0} (ts : Timetables T) (rs : SpareRules R) where
   pub by_mark :
-      (l : Level T R) (s a : ℕ) → holder l.inner.board l.inner.clock ≡ Some s → RunnerOf l.inner s (Some a) →
-      ByMark (meaning ts rs l) s a × (s < 16)
-  by_mark l s a mark r = (
-    record {
-      mark = seen_here (holder l.inner.board) l.inner.clock ∙ mark;
-      held = in_use_held (get_or l.inner.seats s no_seat);
-      seat = seat_at_lem l.inner.seats s r.0 r.1;
-      activity = r.2;
-      ready = r.3;
-    },
-    r.0,
-  )
+      (l : Level T R) (s a : ℕ) → holder l.inner.board l.inner.clock ≡ Some s → (r : RunnerOf l.inner s (Some a)) →
+      ByMark (meaning ts rs l) s a
+  by_mark l s a mark r = record {
+    mark = seen_here (holder l.inner.board) l.inner.clock ∙ mark;
+    held = r.0;
+    seat = r.1;
+    activity = r.2;
+    ready = r.3;
+  }
 
   -- what is counted of a tick
   by_given :
@@ -69,23 +66,23 @@ module _ {T R : Type 0} (ts : Timetables T) (rs : SpareRules R) where
   given_patience Idle (Some a) m k p = absurd p
 
   pub ticks :
-      (l k : Level T R) (j : Inner) (o : Option ℕ) (t : Letter) (u : ℤ) → u ≡ l.inner.clock → (l.inner.clock ≡ pos 2147483647 → ⊥) →
-      GivenTo (meaning ts rs l) t o (meaning ts rs k) → k.timetable ≡ l.timetable → k.inner ≡ l.inner →
-      Advanced k.inner o t j →
-      Step (meaning ts rs l) (ticked (record { tick = u; runner = o; letter = t })) (meaning ts rs (record { timetable = k.timetable; rule = k.rule; inner = j }))
-  ticks l k j o t u eu ne given et ei a = (
+      (l k : Level T R) (j : Inner) (e : Ticked) → e.tick ≡ l.inner.clock → (l.inner.clock ≡ pos 2147483647 → ⊥) →
+      GivenTo (meaning ts rs l) e.letter e.runner (meaning ts rs k) → k.timetable ≡ l.timetable → k.inner ≡ l.inner →
+      Advanced k.inner e j →
+      Step (meaning ts rs l) (ticked e) (meaning ts rs (record { timetable = k.timetable; rule = k.rule; inner = j }))
+  ticks l k j e eu ne given et ei a = (
     tick_sound _ ne,
     record {
-      kept = record { number = a.number ∙ ap (λ i. i.number) ei; owner = ap ts.owner et; cycle = ap ts.cycle et; patience = given_patience t o _ _ given };
+      kept = record { number = a.number ∙ ap (λ i. i.number) ei; owner = ap ts.owner et; cycle = ap ts.cycle et; patience = given_patience e.letter e.runner _ _ given };
       tick = eu;
       clock = next;
       ready = ap is_ready (a.ready ∙ ap (λ i. i.ready) ei);
       spent = seen_spent f g l.inner.clock j.clock next cleared;
       others = seen_others f g l.inner.clock j.clock next cleared;
-      used = λ x. a.used x ∙ ap (λ i. one (is x o) + get_or i.used x 0) ei;
-      by = by_given t o _ _ _ given refl
-          (λ s e. ap (λ x. cond (ltb s 16) (held_of x) None) (seats s ∙ cond-false (is_for s t) _ _ e))
-          (λ s h e q. ap (λ x. cond (ltb s 16) (held_of x) None) (seats s ∙ cond-true (is_for s t) _ _ e) ∙ more_at l.inner.seats s h q);
+      used = λ x. a.used x ∙ ap (λ i. one (is x e.runner) + get_or i.used x 0) ei;
+      by = by_given e.letter e.runner _ _ _ given refl
+          (λ s q. seats s ∙ cond-false (is_for s e.letter) _ _ q)
+          (λ s h q at. seats s ∙ cond-true (is_for s e.letter) _ _ q ∙ ap one_more at);
     },
   )
     where
@@ -101,5 +98,5 @@ module _ {T R : Type 0} (ts : Timetables T) (rs : SpareRules R) where
       cleared : (v : ℤ) → g v ≡ turned f l.inner.clock None v
       cleared v = a.board v ∙ ap (λ i. turned (holder i.board) i.clock None v) ei
 
-      seats : (s : ℕ) → get_or j.seats s no_seat ≡ cond (is_for s t) (one_more (get_or l.inner.seats s no_seat)) (get_or l.inner.seats s no_seat)
-      seats s = a.seats s ∙ ap (λ i. cond (is_for s t) (one_more (get_or i.seats s no_seat)) (get_or i.seats s no_seat)) ei
+      seats : (s : ℕ) → seat_at j.seats s ≡ cond (is_for s e.letter) (one_more (seat_at l.inner.seats s)) (seat_at l.inner.seats s)
+      seats s = a.seats s ∙ ap (λ i. cond (is_for s e.letter) (one_more (seat_at i.seats s)) (seat_at i.seats s)) ei

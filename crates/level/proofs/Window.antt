@@ -14,10 +14,8 @@ one_place c t u ct tc cu uc e =
     apart : (x y : ℤ) (m n : ℕ) → (x *ℤ pos 1024) +ℤ pos m ≡ t → (y *ℤ pos 1024) +ℤ pos n ≡ u → m ≡ n → t ≡ u
     apart x y m n p q e = omega (arith, ints)
 
-abbrev nothing : Option ℕ
-nothing = None
-
-pub empty : (n k : ℕ) → get_or (replicate n nothing) k None ≡ None
+-- a table in which nothing is
+pub empty : {A : Type 0} (n k : ℕ) → ◌≡◌ {A = Option A} (get_or (replicate n None) k None) None
 empty zero k = refl
 empty (suc n) zero = refl
 empty (suc n) (suc k) = empty n k

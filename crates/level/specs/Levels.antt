@@ -1,9 +1,8 @@
 -- What the code's level means, which events its calls are, and what their contracts say.
-use Rattle.std.specs.Prelude.{◌≡◌, ℕ, Bool, cond, not, ◌&&◌, List, ℤ, pos, ◌+ℤ◌, Some, None, Ok, Err, Option, Result, int_lt, nat_lt, slice_index, slice_index_or}
+use Rattle.std.specs.Prelude.{◌≡◌, ℕ, Bool, cond, not, ◌&&◌, ℤ, pos, ◌+ℤ◌, None, Ok, Err, Option, Result, int_lt, slice_index}
 use Rattle.timetable.specs.declared.table.Timetable.{Ghosts as Timetables}
 use Rattle.spare.specs.declared.rule.SpareRule.{Ghosts as SpareRules}
 use Rattle.spare.specs.Sets.{is_ready}
-use Rattle.level.specs.declared.seat.Seat.{Seat}
 use Rattle.level.specs.declared.level.Level.{Level}
 use Rattle.level.specs.declared.ticked.Letter.{Letter}
 use Rattle.level.specs.declared.ticked.Letter.TheVariants.{Constrained, Reserved, Spare, Idle}
@@ -11,21 +10,13 @@ use Rattle.level.specs.declared.ticked.Ticked.{Ticked}
 use Rattle.level.specs.declared.refusal.Refusal.{Refusal}
 use Rattle.level.specs.declared.ticket.Ticket.{Ticket}
 use Rattle.level.specs.Board.{holder}
-use Rattle.level.specs.Seats.{no_seat}
-use Rattle.level.specs.Meaning.{Constraint, Meaning, to_wake, to_block, to_begin, to_end, to_leave, to_collect, to_used, to_tick, Event, woke, blocked, began, ended, left, collected, told, ticked, refused}
+use Rattle.level.specs.Seats.{seat_at}
+use Rattle.level.specs.Meaning.{Meaning, to_wake, to_block, to_begin, to_end, to_leave, to_collect, to_used, to_tick, Event, woke, blocked, began, ended, left, collected, told, ticked, refused}
 use Rattle.level.specs.Steps.{Step, Only}
 use Rattle.level.specs.Together.{Opening, Opens}
 use Rattle.level.specs.Promises.{Goes, Starts}
 
 -- What a level of the code means.
-
--- what a seat holds, if it is in use
-abbrev pub held_of : Seat → Option Constraint
-held_of s = cond s.in_use (Some (record { activity = s.activity; start = s.start; deadline = s.deadline; estimate = s.estimate; ran = s.ran; out = s.out })) None
-
--- the seats, of which there are 16
-abbrev pub seat_at : List Seat → ℕ → Option Constraint
-seat_at xs s = cond (nat_lt s 16) (held_of (slice_index_or xs s no_seat)) None
 
 -- what the board has of the ticks from the clock on, as far as it reaches
 abbrev pub seen : ℤ → (ℤ → Option ℕ) → ℤ → Option ℕ

@@ -1,4 +1,5 @@
 pub mod Numbers
+pub mod Held
 pub mod Seats
 pub mod Board
 pub mod Ticks

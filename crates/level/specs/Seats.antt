@@ -1,19 +1,17 @@
--- How one seat's record changes.
-use Rattle.std.specs.Prelude.{ℕ, ◌+◌, Bool, true, false, ℤ, pos}
-use Rattle.level.specs.declared.seat.Seat.{Seat}
+-- What a seat of the table holds, and how that changes.
+use Rattle.std.specs.Prelude.{ℕ, Bool, List, Some, None, Option, slice_index_or}
+use Rattle.level.specs.declared.constraint.Constraint.{Constraint}
+use Rattle.level.specs.Held.{with_ticket, one_more_run}
+
+abbrev pub seat_at : List (Option Constraint) → ℕ → Option Constraint
+seat_at seats s = slice_index_or seats s None
 
 -- one tick more has been run
-abbrev pub one_more : Seat → Seat
-one_more s = record { in_use = s.in_use; activity = s.activity; start = s.start; deadline = s.deadline; estimate = s.estimate; ran = s.ran + 1; out = s.out }
+abbrev pub one_more : Option Constraint → Option Constraint
+one_more None = None
+one_more (Some h) = Some (one_more_run h)
 
 -- the ticket goes out, or is left
-abbrev pub handed : Bool → Seat → Seat
-handed o s = record { in_use = s.in_use; activity = s.activity; start = s.start; deadline = s.deadline; estimate = s.estimate; ran = s.ran; out = o }
-
--- a constraint that begins
-abbrev pub taken : ℕ → ℤ → ℤ → ℕ → Seat
-taken a t d e = record { in_use = true; activity = a; start = t; deadline = d; estimate = e; ran = 0; out = true }
-
--- a seat that was never used
-abbrev pub no_seat : Seat
-no_seat = record { in_use = false; activity = 0; start = pos 0; deadline = pos 0; estimate = 0; ran = 0; out = false }
+abbrev pub handed : Bool → Option Constraint → Option Constraint
+handed out None = None
+handed out (Some h) = Some (with_ticket out h)

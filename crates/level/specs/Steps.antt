@@ -7,6 +7,7 @@ use Rattle.level.specs.declared.ticked.Ticked.{Ticked}
 use Rattle.level.specs.declared.ticket.Ticket.{Ticket}
 use Rattle.level.specs.Ticks.{one, is, Marking}
 use Rattle.level.specs.Meaning.{Constraint, Meaning, to_wake, to_block, to_begin, to_end, to_leave, to_collect, to_used, to_tick, Event, woke, blocked, began, ended, left, collected, told, ticked, refused, call_of}
+pub use Rattle.level.specs.Held.{with_ticket, one_more_run}
 use Rattle.level.specs.Refusals.{available, own, Sound, Refused}
 
 -- what no call changes
@@ -58,9 +59,6 @@ pub record Ended (m : Meaning) (x : Ticket) (ran : ℕ) (n : Meaning) : Type 0 w
   pub gone : (u : ℤ) → m.marks u ≡ Some x.seat → n.marks u ≡ None
   pub others : (u : ℤ) → (m.marks u ≢ Some x.seat) → n.marks u ≡ m.marks u
 
-abbrev pub with_ticket : Bool → Constraint → Constraint
-with_ticket o h = record { activity = h.activity; start = h.start; deadline = h.deadline; estimate = h.estimate; ran = h.ran; out = o }
-
 -- an accepted leave or collect: the ticket goes to the level, or out again
 pub record Handed (m : Meaning) (s : ℕ) (out : Bool) (n : Meaning) : Type 0 where
   pub beside : Beside m n
@@ -99,9 +97,6 @@ pub record ByRule (m : Meaning) (a : ℕ) (n : Meaning) : Type 0 where
 -- nobody is ready
 abbrev pub AllBlocked : Meaning → Type 0
 AllBlocked m = (a : ℕ) → m.ready a ≡ false
-
-abbrev pub one_more_run : Constraint → Constraint
-one_more_run h = record { activity = h.activity; start = h.start; deadline = h.deadline; estimate = h.estimate; ran = h.ran + 1; out = h.out }
 
 -- by which letter the tick at m's clock goes to a runner, and what that does to the seats and to the rule
 abbrev pub By : Meaning → Letter → Option ℕ → Meaning → Type 0

@@ -1,6 +1,9 @@
 -- Which ticks a constraint may have, and which of them it is given.
 use Rattle.std.specs.Prelude.{◌≡◌, ℕ, zero, suc, ◌+◌, ◌<◌, ◌≤◌, Bool, true, false, cond, ◌&&◌, ◌⊎◌, ℤ, pos, ◌+ℤ◌, ◌-ℤ◌, ◌≤ℤ◌, ◌<ℤ◌, Some, None, Ok, Err, Option, Result, ◌==◌, unsigned_abs}
 use Rattle.level.specs.declared.board.Board.{Board}
+use Rattle.level.specs.declared.constraint.Constraint.{Constraint}
+use Rattle.level.specs.declared.refusal.Refusal.{Refusal}
+use Rattle.level.specs.declared.refusal.Refusal.TheVariants.{TooFew}
 use Rattle.level.specs.Board.{holder}
 
 abbrev pub one : Bool → ℕ
@@ -65,10 +68,11 @@ Given clock owner a seat start deadline estimate before after =
     × Marking (is_available before owner a) (λ t. is a (owner t)) start deadline estimate chosen
     × MarksFor clock seat chosen before after
 
--- what an attempt to give a seat its ticks tells: how many ticks are available, where these are too few
-abbrev pub Gives : ℤ → (ℤ → Option ℕ) → ℕ → ℕ → ℤ → ℤ → ℕ → Board → Board → Result (Unit {0}) ℕ → Type 0
-Gives clock owner a seat start deadline estimate before after (Ok _) =
-    (estimate ≤ between (is_available (holder before) owner a) start deadline)
-    × Given clock owner a seat start deadline estimate (holder before) (holder after)
-Gives clock owner a seat start deadline estimate before after (Err n) =
-    (n < estimate) × (n ≡ between (is_available (holder before) owner a) start deadline) × (after ≡ before)
+-- A constraint is given its ticks, whatever the clock is from which on its window lies within reach; or fewer are available than it asks for, and
+-- the refusal tells how many.
+abbrev pub Gives : (ℤ → Option ℕ) → ℕ → Constraint → Board → Board → Result (Unit {0}) Refusal → Type 0
+Gives owner seat h before after (Ok _) =
+    (h.estimate ≤ between (is_available (holder before) owner h.activity) h.start h.deadline)
+    × ((clock : ℤ) → clock ≤ℤ h.start → h.deadline ≤ℤ (clock +ℤ pos 1024) → Given clock owner h.activity seat h.start h.deadline h.estimate (holder before) (holder after))
+Gives owner seat h before after (Err r) =
+    (n : ℕ) × (r ≡ TooFew n) × (n < h.estimate) × (n ≡ between (is_available (holder before) owner h.activity) h.start h.deadline) × (after ≡ before)

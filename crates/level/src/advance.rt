@@ -1,22 +1,23 @@
 // A tick is counted, and the clock moves on.
-ghost use Rattle.std.specs.Prelude.{◌≡◌, ℕ, ◌+◌, ◌<◌, ℤ, pos, if◌then◌else◌, MatchBool, ◌≢◌, slice_index, slice_index_or};
-ghost use Rattle.level.specs.Seats.{no_seat, one_more};
+ghost use Rattle.std.specs.Prelude.{◌≡◌, ℕ, ◌+◌, ◌<◌, ℤ, pos, if◌then◌else◌, MatchBool, ◌≢◌, slice_index};
+ghost use Rattle.level.specs.Seats.{seat_at, one_more};
 ghost use Rattle.level.specs.Ticks.{one, is};
 ghost use Rattle.level.specs.Promises.{is_for};
-ghost use Rattle.level.specs.Parts.{Advanced, SmallLetter, SmallRunner, RanRoom, UsedRoom};
+ghost use Rattle.level.specs.Parts.{Advanced, Small, SmallLetter, SmallRunner, RanRoom, UsedRoom};
 
+use crate::constraint::Constraint;
 use crate::inner::Inner;
-use crate::seat::Seat;
-use crate::ticked::Letter;
+use crate::ticked::{Letter, Ticked};
 
 // One tick more for the seat of a letter.
-fn tally_seat(seats: &mut [Seat; 16], letter: Letter)
+fn tally_seat(seats: &mut [Option<Constraint>; 16], letter: Letter)
     requires { (SmallLetter letter) × (RanRoom seats.old) }
-    ensures { (s : ℕ) → slice_index_or seats.new s no_seat ≡ (if is_for s letter then one_more (slice_index_or seats.old s no_seat) else slice_index_or seats.old s no_seat) }
+    ensures { (s : ℕ) → seat_at seats.new s ≡ (if is_for s letter then one_more (seat_at seats.old s) else seat_at seats.old s) }
 {
     if let Letter::Constrained { seat } = letter {
-        let place = &mut seats[seat as usize];
-        place.run();
+        if let Some(held) = &mut seats[usize::from(seat)] {
+            held.ran += 1;
+        }
     }
 }
 
@@ -26,7 +27,7 @@ fn credit(used: &mut [u32; 16], runner: Option<u8>)
     ensures { (a : ℕ) → slice_index used.new a ≡ one (is a runner) + slice_index used.old a }
 {
     if let Some(activity) = runner {
-        used[activity as usize] += 1;
+        used[usize::from(activity)] += 1;
     }
 }
 
@@ -39,13 +40,13 @@ impl Inner {
     }
 
     // The tick at the clock is over.
-    pub(crate) fn advance(&mut self, runner: Option<u8>, letter: Letter)
-        requires { (SmallRunner runner) × ((SmallLetter letter) × ((self.old.clock ≢ pos 2147483647))) }
-        ensures { Advanced self.old runner letter self.new }
+    pub(crate) fn advance(&mut self, ticked: Ticked)
+        requires { (Small ticked.runner ticked.letter) × ((self.old.clock ≢ pos 2147483647)) }
+        ensures { Advanced self.old ticked self.new }
     {
         let t = self.clock;
-        tally_seat(&mut self.seats, letter);
-        credit(&mut self.used, runner);
+        tally_seat(&mut self.seats, ticked.letter);
+        credit(&mut self.used, ticked.runner);
         self.board.clear(t);
         self.clock = t + 1;
     }

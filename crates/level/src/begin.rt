@@ -1,8 +1,10 @@
 // Constraints begin.
 ghost use Rattle.std.specs.Prelude.{ℕ, ℤ};
 ghost use Rattle.level.specs.Levels.{meaning, Calls, begin_event};
-ghost use Rattle.level.specs.Parts.{Fault};
+ghost use Rattle.level.specs.Parts.{Admits};
 
+use crate::activity::known;
+use crate::constraint::Constraint;
 use crate::level::Level;
 use crate::marking::give;
 use crate::refusal::Refusal;
@@ -11,40 +13,43 @@ use spare::rule::SpareRule;
 use timetable::table::Timetable;
 
 impl<T: Timetable, R: SpareRule> Level<T, R> {
-    // What is wrong with a begin, before its ticks are counted.
-    fn begin_fault(
+    // The constraint that a begin asks for, with its seat, unless something is wrong with it before its ticks are counted.
+    fn admit(
         &self,
         seat: u16,
         activity: u16,
         start: i32,
         estimate: u16,
         deadline: i32,
-    ) -> Option<Refusal>
-        ensures { Fault (meaning T.Timetable R.SpareRule self.now) seat activity start estimate deadline result }
+    ) -> Result<(u8, Constraint), Refusal>
+        ensures { Admits (meaning T.Timetable R.SpareRule self.now) seat activity start estimate deadline result }
     {
-        if activity > 15 {
-            return Some(Refusal::UnknownActivity);
-        }
+        let activity = known(activity)?;
         if estimate == 0 {
-            return Some(Refusal::ZeroEstimate);
+            return Err(Refusal::ZeroEstimate);
         }
         if start < self.inner.clock {
-            return Some(Refusal::EarlyStart);
+            return Err(Refusal::EarlyStart);
         }
         if deadline <= start {
-            return Some(Refusal::BadDeadline);
+            return Err(Refusal::BadDeadline);
         }
         let ahead = i64::from(deadline) - i64::from(self.inner.clock);
         if ahead > 1024 {
-            return Some(Refusal::BadDeadline);
+            return Err(Refusal::BadDeadline);
         }
-        if seat > 15 {
-            return Some(Refusal::SeatUnavailable);
+        if seat > 15 || self.inner.held(seat).is_some() {
+            return Err(Refusal::SeatUnavailable);
         }
-        if self.inner.seats[seat as usize].in_use {
-            return Some(Refusal::SeatUnavailable);
-        }
-        None
+        let constraint = Constraint {
+            activity,
+            start,
+            deadline,
+            estimate,
+            ran: 0,
+            out: true,
+        };
+        Ok((seat as u8, constraint))
     }
 
     /// Begins a constraint: of the ticks from `start` to before `deadline`, `estimate` are marked for the seat, the activity's own ones
@@ -59,30 +64,12 @@ impl<T: Timetable, R: SpareRule> Level<T, R> {
     ) -> Result<Ticket, Refusal>
         ensures { Calls T.Timetable R.SpareRule self.old (begin_event seat activity start estimate deadline result) self.new }
     {
-        if let Some(refusal) = self.begin_fault(seat, activity, start, estimate, deadline) {
-            return Err(refusal);
-        }
-        let place = seat as u8;
-        let holder = activity as u8;
-        match give(
-            &mut self.inner.board,
-            self.inner.clock,
-            &self.timetable,
-            holder,
-            place,
-            start,
-            deadline,
-            estimate,
-        ) {
-            Ok(()) => {
-                self.inner
-                    .take_seat(place, holder, start, deadline, estimate);
-                Ok(Ticket {
-                    level: self.inner.number,
-                    seat: place,
-                })
-            }
-            Err(available) => Err(Refusal::TooFew { available }),
-        }
+        let (seat, constraint) = self.admit(seat, activity, start, estimate, deadline)?;
+        give(&mut self.inner.board, &self.timetable, seat, &constraint)?;
+        self.inner.take_seat(seat, constraint);
+        Ok(Ticket {
+            level: self.inner.number,
+            seat,
+        })
     }
 }

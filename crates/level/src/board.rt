@@ -15,16 +15,6 @@ fn cell_of(t: i32) -> usize
     t.rem_euclid(1024) as usize
 }
 
-// What is left of a mark when a seat's marks go.
-fn kept(cell: Option<u8>, seat: u8) -> Option<u8>
-    ensures { result ≡ without seat cell }
-{
-    match cell {
-        Some(s) => if s == seat { None } else { Some(s) },
-        None => None,
-    }
-}
-
 impl Board {
     pub(crate) fn blank() -> Board
         ensures { (t : ℤ) → holder result t ≡ None }
@@ -57,8 +47,8 @@ impl Board {
     pub(crate) fn release(&mut self, seat: u8)
         ensures { (u : ℤ) → holder self.new u ≡ without seat (holder self.old u) }
     {
-        for i in 0..1024usize {
-            self.cells[i] = kept(self.cells[i], seat);
+        for cell in self.cells.iter_mut() {
+            *cell = cell.filter(|&holder| holder != seat);
         }
     }
 }

@@ -1,12 +1,12 @@
 // The plain part of a level: all that does not depend on which timetable and which rule it has.
-ghost use Rattle.std.specs.Prelude.{◌≡◌, ℕ, false, ℤ, None, slice_index, slice_index_or};
+ghost use Rattle.std.specs.Prelude.{◌≡◌, ℕ, false, ℤ, None, slice_index};
 ghost use Rattle.spare.specs.Sets.{is_ready};
 ghost use Rattle.level.specs.Board.{holder};
 ghost use Rattle.level.specs.Bounds.{RanBound, UsedBound};
-ghost use Rattle.level.specs.Seats.{no_seat};
+ghost use Rattle.level.specs.Seats.{seat_at};
 
 use crate::board::Board;
-use crate::seat::Seat;
+use crate::constraint::Constraint;
 use spare::ready::ReadySet;
 
 // No count exceeds the ticks since the least clock, so that none can run over.
@@ -16,7 +16,7 @@ pub(crate) struct Inner {
     pub(crate) clock: i32,
     pub(crate) ready: ReadySet,
     pub(crate) board: Board,
-    pub(crate) seats: [Seat; 16],
+    pub(crate) seats: [Option<Constraint>; 16],
     pub(crate) used: [u32; 16],
     ghost few: { RanBound clock seats },
     ghost little: { UsedBound clock used },
@@ -29,7 +29,7 @@ impl Inner {
         ensures clock { result.clock ≡ clock }
         ensures blocked { (a : ℕ) → is_ready result.ready a ≡ false }
         ensures unmarked { (t : ℤ) → holder result.board t ≡ None }
-        ensures unused { (s : ℕ) → (slice_index_or result.seats s no_seat).in_use ≡ false }
+        ensures unused { (s : ℕ) → seat_at result.seats s ≡ None }
         ensures idle { (a : ℕ) → slice_index result.used a ≡ 0 }
     {
         Inner {
@@ -37,7 +37,7 @@ impl Inner {
             clock,
             ready: ReadySet::empty(),
             board: Board::blank(),
-            seats: [Seat::unused(); 16],
+            seats: [None; 16],
             used: [0; 16],
         }
     }

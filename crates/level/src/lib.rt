@@ -3,6 +3,7 @@
 // What is promised of every list of calls on several levels stands in specs/Promises.antt, and on the contract of each call.
 #![tactic(auto)]
 
+mod activity;
 mod advance;
 pub mod begin;
 mod board;
@@ -16,7 +17,6 @@ mod marking;
 pub mod questions;
 pub mod readiness;
 pub mod refusal;
-mod seat;
 mod seating;
 mod supply;
 pub mod theorem;

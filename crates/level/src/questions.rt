@@ -2,6 +2,7 @@
 ghost use Rattle.std.specs.Prelude.{◌≡◌, ℕ, ℤ};
 ghost use Rattle.level.specs.Levels.{meaning, Calls, used_event};
 
+use crate::activity::known;
 use crate::constraint::Constraint;
 use crate::level::Level;
 use crate::refusal::Refusal;
@@ -13,10 +14,8 @@ impl<T: Timetable, R: SpareRule> Level<T, R> {
     pub fn used(&self, activity: u16) -> Result<u32, Refusal>
         ensures { Calls T.Timetable R.SpareRule self.now (used_event activity result) self.now }
     {
-        if activity > 15 {
-            return Err(Refusal::UnknownActivity);
-        }
-        Ok(self.inner.used[activity as usize])
+        let activity = known(activity)?;
+        Ok(self.inner.used[usize::from(activity)])
     }
 
     /// The number that the level was opened under.
@@ -37,31 +36,14 @@ impl<T: Timetable, R: SpareRule> Level<T, R> {
     pub fn is_ready(&self, activity: u16) -> bool
         ensures { result ≡ (meaning T.Timetable R.SpareRule self.now).ready activity }
     {
-        if activity > 15 {
-            return false;
-        }
-        self.inner.ready.has(activity as u8)
+        known(activity).is_ok_and(|activity| self.inner.ready.has(activity))
     }
 
     /// What the seat holds, if it is in use; one above 15 never is.
     pub fn seat(&self, seat: u16) -> Option<Constraint>
         ensures { result ≡ (meaning T.Timetable R.SpareRule self.now).seats seat }
     {
-        if seat > 15 {
-            return None;
-        }
-        let place = self.inner.seats[seat as usize];
-        if !place.in_use {
-            return None;
-        }
-        Some(Constraint {
-            activity: place.activity,
-            start: place.start,
-            deadline: place.deadline,
-            estimate: place.estimate,
-            ran: place.ran,
-            out: place.out,
-        })
+        self.inner.held(seat)
     }
 
     /// The seat that the tick is marked for, if the mark is still to come.
@@ -69,10 +51,7 @@ impl<T: Timetable, R: SpareRule> Level<T, R> {
         ensures { result ≡ (meaning T.Timetable R.SpareRule self.now).marks t }
     {
         let ahead = i64::from(t) - i64::from(self.clock());
-        if ahead < 0 {
-            return None;
-        }
-        if ahead >= 1024 {
+        if ahead < 0 || ahead >= 1024 {
             return None;
         }
         self.inner.board.holder_at(t)

@@ -2,6 +2,7 @@
 ghost use Rattle.std.specs.Prelude.{ℕ, ℤ};
 ghost use Rattle.level.specs.Levels.{Calls, wake_event, block_event};
 
+use crate::activity::known;
 use crate::level::Level;
 use crate::refusal::Refusal;
 use spare::rule::SpareRule;
@@ -12,10 +13,8 @@ impl<T: Timetable, R: SpareRule> Level<T, R> {
     pub fn wake(&mut self, activity: u16) -> Result<(), Refusal>
         ensures { Calls T.Timetable R.SpareRule self.old (wake_event activity result) self.new }
     {
-        if activity > 15 {
-            return Err(Refusal::UnknownActivity);
-        }
-        self.inner.ready = self.inner.ready.with(activity as u8);
+        let activity = known(activity)?;
+        self.inner.ready = self.inner.ready.with(activity);
         Ok(())
     }
 
@@ -23,10 +22,8 @@ impl<T: Timetable, R: SpareRule> Level<T, R> {
     pub fn block(&mut self, activity: u16) -> Result<(), Refusal>
         ensures { Calls T.Timetable R.SpareRule self.old (block_event activity result) self.new }
     {
-        if activity > 15 {
-            return Err(Refusal::UnknownActivity);
-        }
-        self.inner.ready = self.inner.ready.without(activity as u8);
+        let activity = known(activity)?;
+        self.inner.ready = self.inner.ready.without(activity);
         Ok(())
     }
 }

@@ -1,36 +1,37 @@
-// How the seats of a level change: one record is lent and changed, and the other fifteen stay.
-ghost use Rattle.std.specs.Prelude.{◌≡◌, ℕ, ◌<◌, true, false, ℤ, MatchBool, slice_index_or};
-ghost use Rattle.level.specs.Seats.{no_seat, taken, handed};
-ghost use Rattle.level.specs.Levels.{seat_at};
+// How the seats of a level change: one of them is lent and changed, and the other fifteen stay.
+ghost use Rattle.std.specs.Prelude.{◌≡◌, ℕ, ◌<◌, true, false, ℤ, MatchBool, Some};
+ghost use Rattle.level.specs.Seats.{seat_at, handed};
 ghost use Rattle.level.specs.Parts.{Reseat, Freed, TicketIsOut, TicketIsInvalid, TicketIsLeft, NoTicketIsLeft};
 
+use crate::constraint::Constraint;
 use crate::inner::Inner;
 use crate::ticket::Ticket;
 
 impl Inner {
-    // A constraint takes the seat.
-    pub(crate) fn take_seat(
-        &mut self,
-        seat: u8,
-        activity: u8,
-        start: i32,
-        deadline: i32,
-        estimate: u16,
-    )
-        requires { seat < 16 }
-        ensures { Reseat self.old seat (taken activity start deadline estimate) self.new }
+    // What the seat holds; one above 15 holds nothing.
+    pub(crate) fn held(&self, seat: u16) -> Option<Constraint>
+        ensures { result ≡ seat_at self.now.seats seat }
     {
-        let place = &mut self.seats[seat as usize];
-        place.take(activity, start, deadline, estimate);
+        *self.seats.get(usize::from(seat))?
+    }
+
+    // A constraint that has not run yet takes the seat.
+    pub(crate) fn take_seat(&mut self, seat: u8, constraint: Constraint)
+        requires { (seat < 16) × (constraint.ran ≡ 0) }
+        ensures { Reseat self.old seat (Some constraint) self.new }
+    {
+        let place = &mut self.seats[usize::from(seat)];
+        *place = Some(constraint);
     }
 
     // The seat's ticket goes out, or is left.
     pub(crate) fn hand_ticket(&mut self, seat: u8, out: bool)
         requires { seat < 16 }
-        ensures { Reseat self.old seat (handed out (slice_index_or self.old.seats seat no_seat)) self.new }
+        ensures { Reseat self.old seat (handed out (seat_at self.old.seats seat)) self.new }
     {
-        let place = &mut self.seats[seat as usize];
-        place.hand(out);
+        if let Some(held) = &mut self.seats[usize::from(seat)] {
+            held.out = out;
+        }
     }
 
     // The seat's constraint is over: its marks go, and the ticks that it has run are returned.
@@ -38,8 +39,8 @@ impl Inner {
         requires { seat < 16 }
         ensures { Freed self.old seat result self.new }
     {
-        let place = &mut self.seats[seat as usize];
-        let ran = place.free();
+        let place = &mut self.seats[usize::from(seat)];
+        let ran = place.take().map_or(0, |held| held.ran);
         self.board.release(seat);
         ran
     }
@@ -48,30 +49,16 @@ impl Inner {
     pub(crate) fn accepts(&self, ticket: &Ticket) -> bool
         ensures { MatchBool result (TicketIsOut self.now ticket.now) (TicketIsInvalid self.now ticket.now) }
     {
-        if ticket.level != self.number {
-            return false;
-        }
-        if ticket.seat > 15 {
-            return false;
-        }
-        let place = self.seats[ticket.seat as usize];
-        if !place.in_use {
-            return false;
-        }
-        place.out
+        ticket.level == self.number
+            && self
+                .held(u16::from(ticket.seat))
+                .is_some_and(|held| held.out)
     }
 
     // Whether the seat's ticket was left.
     pub(crate) fn has_left(&self, seat: u16) -> bool
         ensures { MatchBool result (TicketIsLeft self.now seat) (NoTicketIsLeft self.now seat) }
     {
-        if seat > 15 {
-            return false;
-        }
-        let place = self.seats[seat as usize];
-        if !place.in_use {
-            return false;
-        }
-        !place.out
+        self.held(seat).is_some_and(|held| !held.out)
     }
 }

@@ -1,5 +1,5 @@
 // Own and free ticks counted apart.
-ghost use Rattle.std.specs.Prelude.{◌≡◌, ℕ, ◌+◌, ◌-◌, ◌<◌};
+ghost use Rattle.std.specs.Prelude.{◌≡◌, ℕ, ◌+◌, ◌-◌, ◌<◌, nat_lt};
 ghost use Rattle.level.specs.Pass.{one, is_own, is_free, takes};
 
 // What a tick is to an activity that looks for ticks: its own, nobody's, or not to be had.
@@ -15,6 +15,16 @@ pub(crate) enum Kind {
 pub(crate) struct Supply {
     pub(crate) own: u16,
     pub(crate) free: u16,
+}
+
+// Whether there is still one; if so it goes.
+fn spend(left: &mut u16) -> bool
+    ensures value { result ≡ nat_lt 0 left.old }
+    ensures after { left.new ≡ left.old - 1 }
+{
+    let some = *left > 0;
+    *left = left.saturating_sub(1);
+    some
 }
 
 impl Supply {
@@ -38,16 +48,8 @@ impl Supply {
         ensures free { self.new.free ≡ self.old.free - one (is_free kind) }
     {
         match kind {
-            Kind::Own => {
-                let some = self.own > 0;
-                self.own = self.own.saturating_sub(1);
-                some
-            }
-            Kind::Free => {
-                let some = self.free > 0;
-                self.free = self.free.saturating_sub(1);
-                some
-            }
+            Kind::Own => spend(&mut self.own),
+            Kind::Free => spend(&mut self.free),
             Kind::Taken => false,
         }
     }

@@ -21,13 +21,8 @@ impl<T: Timetable, R: SpareRule> Level<T, R> {
         if self.inner.at_end() {
             return Err(Refusal::ClockAtEnd);
         }
-        let tick = self.inner.clock;
-        let (runner, letter) = self.give_tick();
-        self.inner.advance(runner, letter);
-        Ok(Ticked {
-            tick,
-            runner,
-            letter,
-        })
+        let ticked = self.give_tick();
+        self.inner.advance(ticked);
+        Ok(ticked)
     }
 }

@@ -1,34 +1,27 @@
-use Rattle.std.proofs.Common.{ℕ, ◌≤◌, ℤ, Option, refl, arith, w32}
-use Rattle.std.proofs.lemmas.Int.{ints, to_z-of_z}
+use Rattle.std.proofs.Common.{◌≡◌, ℕ, ◌≤◌, ℤ, pos, ◌+ℤ◌, ◌-ℤ◌, nat_abs, Option, refl, arith}
+use Rattle.std.proofs.lemmas.Int.{ints}
 use Rattle.level.specs.Board.{holder}
 use Rattle.level.specs.Ticks.{between, is_available}
-use Rattle.level.proofs.Choice.{given, own_at, free_at, pass_at, sum_at}
+use Rattle.level.proofs.Choice.{given, sum_at}
 use Rattle.level.proofs.marking.give.Goals as goal
 
-pub returns-then-available-ticks : goal.returns-then-available-ticks
-returns-then-available-ticks g c =
-    let es = to_z-of_z w32 c.args.start c.ranges.start in
-    let ed = to_z-of_z w32 c.args.deadline c.ranges.deadline in
-    let b : ℤ → Option ℕ = holder c.args.board.now in
-    let o : ℤ → Option ℕ = g.T.Timetable.owner c.args.timetable.now in (
-      omega arith,
-      sum_at o c.args.activity c.args.start c.args.deadline c.span_of-span.result (omega (arith, ints)) b
-          (own_at b o c.args.activity c.span_of-span.result es c.survey-found.ensures.own) (free_at b o c.args.activity c.span_of-span.result es c.survey-found.ensures.free),
-      refl,
-    )
+pub returns-then-available-constraint : goal.returns-then-available-constraint
+returns-then-available-constraint g c =
+    let near = c.requires in
+    let found = c.survey-found.ensures in
+    let owner : ℤ → Option ℕ = g.T.Timetable.owner c.args.timetable.now in
+    (_, refl, omega arith, sum_at owner c.args.constraint.now.activity c.args.constraint.now.start c.args.constraint.now.deadline _ (omega (arith, ints)) (holder c.args.board.now) found.own found.free, refl)
 
 pub returns : goal.returns
 returns g c =
-    let es = to_z-of_z w32 c.args.start c.ranges.start in
-    let ed = to_z-of_z w32 c.args.deadline c.ranges.deadline in
-    let b : ℤ → Option ℕ = holder c.args.board.now in
-    let o : ℤ → Option ℕ = g.T.Timetable.owner c.args.timetable.now in
-    let so = own_at b o c.args.activity c.span_of-span.result es c.survey-found.ensures.own in
-    let sf = free_at b o c.args.activity c.span_of-span.result es c.survey-found.ensures.free in
-    let sum = sum_at o c.args.activity c.args.start c.args.deadline c.span_of-span.result (omega (arith, ints)) b so sf in
-    let enough : c.args.ticks ≤ between (is_available b o c.args.activity) c.args.start c.args.deadline = omega arith in (
-      enough,
-      given o c.args.activity c.args.seat c.args.clock c.args.start c.args.deadline
-          c.span_of-span.result c.args.ticks _ _ _ b _
-          (omega (arith, ints)) (omega (arith, ints)) (omega (arith, ints)) (pass_at b o c.args.activity c.span_of-span.result es c.mark_first.ensures.2) (omega arith) enough,
-    )
+    let near = c.requires in
+    let found = c.survey-found.ensures in
+    let a = c.args.constraint.now.activity in
+    let start : ℤ = c.args.constraint.now.start in
+    let deadline : ℤ = c.args.constraint.now.deadline in
+    let before : ℤ → Option ℕ = holder c.args.board.now in
+    let owner : ℤ → Option ℕ = g.T.Timetable.owner c.args.timetable.now in
+    let ends : start +ℤ pos (nat_abs (deadline -ℤ start)) ≡ deadline = omega (arith, ints) in
+    let sum = sum_at owner a start deadline (nat_abs (deadline -ℤ start)) ends before found.own found.free in
+    let enough : c.args.constraint.now.estimate ≤ between (is_available before owner a) start deadline = omega arith in
+    (enough, λ clock from to. given owner a c.args.seat clock start deadline (nat_abs (deadline -ℤ start)) c.args.constraint.now.estimate _ _ _ before _ from to ends c.mark_first.ensures.2 (omega arith) enough)

@@ -2,7 +2,8 @@ use Rattle.std.proofs.Common.{◌≡◌, ℕ, ◌<◌, ◌≤◌, get_or, None}
 use Rattle.level.specs.Board.{without}
 use Rattle.level.proofs.board.Board.release.Given as goal
 
-abbrev pub invariant-loop-i : goal.invariant-loop-i
-invariant-loop-i l =
-    ((k : ℕ) → k < l.i → get_or l.self.cells k None ≡ without l.seat (get_or l.initial.self.cells k None))
-    × ((k : ℕ) → l.i ≤ k → get_or l.self.cells k None ≡ get_or l.initial.self.cells k None)
+abbrev pub invariant-loop-cell : goal.invariant-loop-cell
+invariant-loop-cell l = record {
+  done : (k : ℕ) → k < l.cell-index → get_or l.cell-items k None ≡ without l.seat (get_or l.fn.self.cells k None);
+  ahead : (k : ℕ) → l.cell-index ≤ k → get_or l.cell-items k None ≡ get_or l.fn.self.cells k None;
+}

@@ -7,4 +7,4 @@ pub invariant_of-result : goal.invariant_of-result
 invariant_of-result c =
     let f = c.ranges.clock in
     let e = to_z-of_z w32 c.args.clock f in
-    record { few = ran_fresh (to_z w32 (of_z w32 c.args.clock)) (omega (arith, ints)) _ c.unused.ensures.ran 16; little = used_fresh (to_z w32 (of_z w32 c.args.clock)) (omega (arith, ints)) 16 }
+    record { few = ran_fresh (to_z w32 (of_z w32 c.args.clock)) 16; little = used_fresh (to_z w32 (of_z w32 c.args.clock)) (omega (arith, ints)) 16 }

@@ -3,7 +3,6 @@ use Rattle.std.proofs.lemmas.Int.{to_z-of_z}
 use Rattle.level.specs.Together.{Opens}
 use Rattle.level.specs.Levels.{meaning, opening}
 use Rattle.level.proofs.Levels.{starts}
-use Rattle.level.proofs.Seated.{not_on}
 use Rattle.level.proofs.Seen.{seen_none}
 use Rattle.level.proofs.level.Level.open.Goals as goal
 
@@ -18,7 +17,7 @@ returns g c =
       owner = refl;
       cycle = refl;
       blocked = f.blocked;
-      unused = λ s. not_on c.fresh.result.seats s (f.unused s);
+      unused = f.unused;
       unmarked = seen_none _ _ f.unmarked;
       idle = f.idle;
       rule = refl;
