@@ -16,14 +16,12 @@ pub fn end_elsewhere_first<T: Timetable, R: SpareRule, U: Timetable, S: SpareRul
     deadline: i32,
 ) -> Result<(Option<Refusal>, u32), Refusal> {
     let start = home.clock();
-    match home.begin(seat, activity, start, 1, deadline) {
-        Ok(ticket) => match other.end(ticket) {
-            Ok(ran) => Ok((None, ran)),
-            Err((refusal, ticket)) => match home.end(ticket) {
-                Ok(ran) => Ok((Some(refusal), ran)),
-                Err((_, _ticket)) => unreachable(),
-            },
+    let ticket = home.begin(seat, activity, start, 1, deadline)?;
+    match other.end(ticket) {
+        Ok(ran) => Ok((None, ran)),
+        Err((refusal, ticket)) => match home.end(ticket) {
+            Ok(ran) => Ok((Some(refusal), ran)),
+            Err((_, _ticket)) => unreachable(),
         },
-        Err(refusal) => Err(refusal),
     }
 }

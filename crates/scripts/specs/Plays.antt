@@ -1,5 +1,5 @@
 -- What a script does to the level that it is given.
-use Rattle.std.specs.Prelude.{◌≡◌, ℕ, List, ◌++◌, ℤ, Some, Option, ◌≢◌}
+use Rattle.std.specs.Prelude.{◌≡◌, ℕ, List, ◌++◌, Some, Option, ◌≢◌}
 use Rattle.timetable.specs.declared.table.Timetable.{Ghosts as Timetables}
 use Rattle.spare.specs.declared.rule.SpareRule.{Ghosts as SpareRules}
 use Rattle.level.specs.declared.level.Level.{Level}

@@ -22,12 +22,10 @@ pub fn open_door<T: Timetable, R: SpareRule>(
     ensures done { DoorOpened (meaning T.Timetable R.SpareRule level.old) seat door start needed deadline result (meaning T.Timetable R.SpareRule level.new) }
     ensures plays { LevelPlays T.Timetable R.SpareRule level.old level.new }
 {
-    match level.begin(seat, door, start, needed, deadline) {
-        Ok(ticket) => match level.leave(ticket) {
-            Ok(()) => Ok(()),
-            Err((_, _ticket)) => unreachable(),
-        },
-        Err(refusal) => Err(refusal),
+    let ticket = level.begin(seat, door, start, needed, deadline)?;
+    match level.leave(ticket) {
+        Ok(()) => Ok(()),
+        Err((_, _ticket)) => unreachable(),
     }
 }
 
@@ -39,11 +37,9 @@ pub fn close_door<T: Timetable, R: SpareRule>(
     ensures done { DoorClosed (meaning T.Timetable R.SpareRule level.old) seat result (meaning T.Timetable R.SpareRule level.new) }
     ensures plays { LevelPlays T.Timetable R.SpareRule level.old level.new }
 {
-    match level.collect(seat) {
-        Ok(ticket) => match level.end(ticket) {
-            Ok(ran) => Ok(ran),
-            Err((_, _ticket)) => unreachable(),
-        },
-        Err(refusal) => Err(refusal),
+    let ticket = level.collect(seat)?;
+    match level.end(ticket) {
+        Ok(ran) => Ok(ran),
+        Err((_, _ticket)) => unreachable(),
     }
 }

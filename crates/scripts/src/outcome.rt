@@ -1,6 +1,7 @@
 // How a script with a ticket ends.
-ghost use Rattle.std.specs.Prelude.{ℕ, ℤ};
+ghost use Rattle.std.specs.Prelude.{◌≡◌, ℕ, ℤ};
 ghost use Rattle.level.specs.Levels.{meaning};
+ghost use Rattle.scripts.specs.declared.outcome.Failure.TheVariants.{Missing};
 ghost use Rattle.scripts.specs.Outcomes.{Finished};
 ghost use Rattle.scripts.specs.Plays.{LevelPlays};
 
@@ -10,23 +11,32 @@ use level::ticket::Ticket;
 use spare::rule::SpareRule;
 use timetable::table::Timetable;
 
-/// What became of a constraint.
-pub enum Outcome {
-    /// It was ended, and had run so many ticks.
-    Ended { ran: u32 },
+/// Why a constraint was not ended.
+pub enum Failure {
     /// It was not begun, or its ticket was not there.
     Missing { refusal: Refusal },
     /// The ticket was refused, and is still here.
     Held { refusal: Refusal, ticket: Ticket },
 }
 
-/// Ends the constraint of the ticket.
-pub fn finish<T: Timetable, R: SpareRule>(level: &mut Level<T, R>, ticket: Ticket) -> Outcome
+impl From<Refusal> for Failure {
+    ghost from_gives = { λ refusal r. r ≡ Missing refusal };
+
+    fn from(refusal: Refusal) -> Failure {
+        Failure::Missing { refusal }
+    }
+}
+
+/// Ends the constraint of the ticket, and returns the ticks that it has run.
+pub fn finish<T: Timetable, R: SpareRule>(
+    level: &mut Level<T, R>,
+    ticket: Ticket,
+) -> Result<u32, Failure>
     ensures done { Finished (meaning T.Timetable R.SpareRule level.old) ticket result (meaning T.Timetable R.SpareRule level.new) }
     ensures plays { LevelPlays T.Timetable R.SpareRule level.old level.new }
 {
     match level.end(ticket) {
-        Ok(ran) => Outcome::Ended { ran },
-        Err((refusal, ticket)) => Outcome::Held { refusal, ticket },
+        Ok(ran) => Ok(ran),
+        Err((refusal, ticket)) => Err(Failure::Held { refusal, ticket }),
     }
 }

@@ -4,7 +4,7 @@ ghost use Rattle.level.specs.Levels.{meaning};
 ghost use Rattle.scripts.specs.Outcomes.{Shuttled};
 ghost use Rattle.scripts.specs.Plays.{LevelPlays};
 
-use crate::outcome::{Outcome, finish};
+use crate::outcome::{Failure, finish};
 use level::level::Level;
 use spare::rule::SpareRule;
 use timetable::table::Timetable;
@@ -18,18 +18,19 @@ pub fn shuttle<T: Timetable, R: SpareRule>(
     platform: u16,
     needed: u16,
     length: u16,
-) -> (Outcome, Outcome)
+) -> (Result<u32, Failure>, Result<u32, Failure>)
     ensures done { Shuttled (meaning T.Timetable R.SpareRule level.old) out back platform needed result.0 result.1 (meaning T.Timetable R.SpareRule level.new) }
     ensures plays { LevelPlays T.Timetable R.SpareRule level.old level.new }
 {
     let start = level.clock();
     let turn = start.saturating_add(i32::from(length));
     let home = turn.saturating_add(i32::from(length));
-    match level.begin(out, platform, start, needed, turn) {
-        Ok(first) => match level.begin(back, platform, turn, needed, home) {
-            Ok(second) => (finish(level, first), finish(level, second)),
-            Err(refusal) => (finish(level, first), Outcome::Missing { refusal }),
-        },
-        Err(refusal) => (Outcome::Missing { refusal }, Outcome::Missing { refusal }),
+    let first = match level.begin(out, platform, start, needed, turn) {
+        Ok(first) => first,
+        Err(refusal) => return (Err(refusal.into()), Err(refusal.into())),
+    };
+    match level.begin(back, platform, turn, needed, home) {
+        Ok(second) => (finish(level, first), finish(level, second)),
+        Err(refusal) => (finish(level, first), Err(refusal.into())),
     }
 }

@@ -14,7 +14,7 @@ pub fn tick_all<T: Timetable, R: SpareRule>(levels: &mut [Level<T, R>])
     ensures size { length levels.new ≡ length levels.old }
     ensures plays { RowPlays (map (meaning T.Timetable R.SpareRule) levels.old) (map (meaning T.Timetable R.SpareRule) levels.new) }
 {
-    for k in 0..levels.len() {
-        let _ = levels[k].tick();
+    for level in levels.iter_mut() {
+        let _ = level.tick();
     }
 }
