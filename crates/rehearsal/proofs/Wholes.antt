@@ -35,6 +35,9 @@ use Rattle.rehearsal.specs.Calls.{rows_of}
 use Rattle.rehearsal.specs.Stages.{Stage, Through}
 use Rattle.rehearsal.specs.Onwards.{Standing, line_after, malformed_row, Onwards, PlaysOut}
 use Rattle.rehearsal.specs.Runs.{BrokenOff, Runs}
+use Rattle.std.specs.Result.{MatchResult}
+use Rattle.rehearsal.specs.declared.fault.RehearsalFault.{RehearsalFault}
+use Rattle.rehearsal.specs.declared.fault.RehearsalFault.TheVariants.{Output}
 use Rattle.rehearsal.specs.Whole.{held, Fresh, Start, PlayedFrom, ScriptRows, played, all_rows, under_way, sheet_refused, on_sheet, output_of, TellsScript, Tells}
 use Rattle.rehearsal.proofs.PlayedOut.{no_ticks}
 use Rattle.rehearsal.proofs.Histories.{history_of}
@@ -164,3 +167,8 @@ module _ {S F : Type 0} (hands : S → List ℕ → Result (Unit {0}) F → S �
   pub tells_refused : (f : SheetFault) → Refused sheet f → (f ≡ Plan NoMemory → ⊥) → (r : Result (Unit {0}) F) (o : Result (Unit {0}) (RehearsalFault F)) (k' : S) → o ≡ output_of r →
       hands k (row_text (Malformed 0)) r k' → Tells hands sheet script k o k'
   tells_refused f d n r o k' e h = subst (λ (z : Result (Unit {0}) (RehearsalFault F)). Tells hands sheet script k z k') (sym e) (tells_bad f d n r k' h)
+
+-- a sink's fault told as the rehearsal's
+pub as_output : {F : Type 0} (r : Result (Unit {0}) F) (o : Result (Unit {0}) (RehearsalFault F)) (Told : F → Type 0) → MatchResult r (λ u. o ≡ Ok u) Told → ((f : F) → Told f → o ≡ Err (Output f)) → o ≡ output_of r
+as_output (Ok u) o Told m t = m
+as_output (Err f) o Told m t = t f m

@@ -15,13 +15,11 @@ pub fn play_wake<T: Timetable, R: SpareRule>(level: &mut Level<T, R>, activity: 
     ensures calls { Woken (meaning T.Timetable R.SpareRule level.old) activity result (meaning T.Timetable R.SpareRule level.new) }
     ensures plays { PlaysCommand R.SpareRule (stage T.Timetable R.SpareRule level.old) (Wake activity) (rows_in result) (stage T.Timetable R.SpareRule level.new) }
 {
-    match level.wake(activity) {
-        Ok(()) => None,
-        Err(refusal) => Some(Row::WakeRefused {
-            activity,
-            number: refusal.number(),
-        }),
-    }
+    let refusal = level.wake(activity).err()?;
+    Some(Row::WakeRefused {
+        activity,
+        number: refusal.number(),
+    })
 }
 
 /// Plays `b A`: nothing is told where the level accepts it.
@@ -29,13 +27,11 @@ pub fn play_block<T: Timetable, R: SpareRule>(level: &mut Level<T, R>, activity:
     ensures calls { Blocked (meaning T.Timetable R.SpareRule level.old) activity result (meaning T.Timetable R.SpareRule level.new) }
     ensures plays { PlaysCommand R.SpareRule (stage T.Timetable R.SpareRule level.old) (Block activity) (rows_in result) (stage T.Timetable R.SpareRule level.new) }
 {
-    match level.block(activity) {
-        Ok(()) => None,
-        Err(refusal) => Some(Row::BlockRefused {
-            activity,
-            number: refusal.number(),
-        }),
-    }
+    let refusal = level.block(activity).err()?;
+    Some(Row::BlockRefused {
+        activity,
+        number: refusal.number(),
+    })
 }
 
 /// Plays one tick.

@@ -37,16 +37,6 @@ pub fn rehearse_on<T: Timetable + Drop, S: Sink>(
     }
 }
 
-// A sink's fault as the rehearsal's.
-fn output<F>(told: Result<(), F>) -> Result<(), RehearsalFault<F>>
-    ensures { result ≡ output_of told }
-{
-    match told {
-        Ok(()) => Ok(()),
-        Err(fault) => Err(RehearsalFault::Output(fault)),
-    }
-}
-
 /// Plays a script on a level over the plan of a sheet, and hands the rows to the sink. Of a sheet that is refused only `? 0` is told.
 pub fn rehearse<S: Sink>(
     heap: Global,
@@ -64,9 +54,9 @@ pub fn rehearse<S: Sink>(
         period: 0,
     }; 16];
     match load(sheet, &mut plan, &mut list) {
-        Ok(_) => output(rehearse_on(plan, script, sink)),
+        Ok(_) => rehearse_on(plan, script, sink).map_err(RehearsalFault::Output),
         Err(fault) => match fault.number() {
-            Some(_) => output(hand_row(&Row::Malformed { line: 0 }, sink)),
+            Some(_) => hand_row(&Row::Malformed { line: 0 }, sink).map_err(RehearsalFault::Output),
             None => Err(RehearsalFault::Memory),
         },
     }
