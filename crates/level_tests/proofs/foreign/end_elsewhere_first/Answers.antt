@@ -4,4 +4,4 @@ use Rattle.level_tests.proofs.foreign.end_elsewhere_first.Goals as goal
 -- src/foreign.rt: the constraint was just begun at home
 pub unreachable-requires : goal.unreachable-requires
 unreachable-requires g c =
-    ended_at_home _ _ _ _ _ _ _ _ _ _ _ c.in-Ok.ensures.called.step c.in-Err-end.ensures.back c.in-Err-end-2.ensures.called.called.step
+    ended_at_home _ _ _ _ _ _ _ _ _ _ _ c.in_ok-ticket.ensures.called.step c.in-Err.ensures.back c.in-Err-end.ensures.called.called.step
