@@ -45,7 +45,7 @@ fn character<T: Timetable>(timetable: &T, who: Option<u8>, column: u16) -> char
     ensures column { Column (T.Timetable.owner timetable.now) (T.Timetable.cycle timetable.now) who column result }
     ensures ascii { result < 128 }
 {
-    match tick_in(column, timetable.cycle().len) {
+    match tick_in(column, timetable.cycle().ticks) {
         Some(t) => bar(timetable.owner_at(t), who),
         None => '|',
     }
@@ -59,7 +59,7 @@ pub fn line<T: Timetable>(
 ) -> Result<String, AllocError>
     ensures { IfOk result (λ s. Line (T.Timetable.owner timetable.now) (T.Timetable.cycle timetable.now) who (string_bytes s)) }
 {
-    let columns = 2 * timetable.cycle().len + 1;
+    let columns = 2 * timetable.cycle().ticks + 1;
     let mut text = String::with_capacity(heap, usize::from(columns))?;
     for column in 0..columns {
         text.push(character(timetable, who, column))?;
@@ -71,7 +71,7 @@ pub fn line<T: Timetable>(
 pub fn owns_any<T: Timetable>(timetable: &T, who: Option<u8>) -> bool
     ensures { Decides result ((t : ℤ) × (T.Timetable.owner timetable.now t ≡ who)) }
 {
-    for t in 0..timetable.cycle().len {
+    for t in 0..timetable.cycle().ticks {
         if is_same(timetable.owner_at(i32::from(t)), who) {
             return true;
         }

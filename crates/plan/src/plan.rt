@@ -42,7 +42,7 @@ impl Plan {
         ensures { result ≡ floor_mod (frame -ℤ pos 0) (2 ^ self.now.depth) }
     {
         Cycle {
-            len: frames(self.depth),
+            ticks: frames(self.depth),
         }
         .phase(frame, 0)
     }
@@ -92,7 +92,7 @@ impl Timetable for Plan {
 
     fn cycle(&self) -> Cycle {
         Cycle {
-            len: self.cycle_ticks(),
+            ticks: self.cycle_ticks(),
         }
     }
 }

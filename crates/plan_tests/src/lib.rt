@@ -85,10 +85,10 @@ mod tests {
 
     #[test]
     fn phases_of_33_bit_differences(rt: HostRuntime) {
-        let long = Cycle { len: 2048 };
+        let long = Cycle { ticks: 2048 };
         assert_eq!(rt; long.phase(i32::MAX, i32::MIN), 2047);
         assert_eq!(rt; long.phase(i32::MIN, i32::MAX), 1);
-        let odd = Cycle { len: 7 };
+        let odd = Cycle { ticks: 7 };
         assert_eq!(rt; odd.phase(i32::MAX, i32::MIN), 3);
         assert_eq!(rt; odd.phase(i32::MIN, i32::MAX), 4);
         assert!(rt; Cycle::new(1).is_some() && Cycle::new(2048).is_some());
@@ -104,7 +104,7 @@ mod tests {
         assert_eq!(rt; plan.owner_at(-1), Some(5));
         assert_eq!(rt; plan.owner_at(0), Some(1));
         assert_eq!(rt; plan.owner_at(i32::MAX), Some(0));
-        assert_eq!(rt; plan.cycle().len, 40);
+        assert_eq!(rt; plan.cycle().ticks, 40);
         Ok(())
     }
 
@@ -117,7 +117,7 @@ mod tests {
         let both = Shift::new(later, i32::MIN);
         assert_eq!(rt; both.owner_at(i32::MIN), Some(4));
         assert_eq!(rt; both.owner_at(-1), Some(1));
-        assert_eq!(rt; both.cycle().len, 40);
+        assert_eq!(rt; both.cycle().ticks, 40);
         Ok(())
     }
 
@@ -125,10 +125,10 @@ mod tests {
     fn a_full_plan(rt: HostRuntime) -> Result<(), Fail> {
         let mut plan = Plan::empty(rt.alloc());
         assert_eq!(rt; plan.owner_at(i32::MIN), None);
-        assert_eq!(rt; plan.cycle().len, 1);
+        assert_eq!(rt; plan.cycle().ticks, 1);
         let entries = deep_entries(rt.alloc(), 120)?;
         plan.fill(64, 5, entries.as_slice())?;
-        assert_eq!(rt; plan.cycle().len, 2048);
+        assert_eq!(rt; plan.cycle().ticks, 2048);
         assert_eq!(rt; plan.entries().len(), 120);
         assert_eq!(rt; plan.owner_at(-1), None);
         assert_eq!(rt; plan.owner_at(-17), Some(15));

@@ -45,7 +45,7 @@ pub(crate) fn first_short<T: Timetable>(timetable: &T, reservation: &Reservation
 {
     let activity = reservation.activity;
     let mut found = count_first(timetable, activity, reservation.period);
-    for start in 0..timetable.cycle().len {
+    for start in 0..timetable.cycle().ticks {
         if found < reservation.ticks {
             return Some(Window { start, found });
         }
