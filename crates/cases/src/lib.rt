@@ -69,7 +69,7 @@ pub const EXAMPLE_ENTRIES: [Entry; 6] = [
 
 /// The example plan. Only want of memory can keep it from being made.
 pub fn example_plan(heap: Global) -> Result<Plan, PlanFault>
-    ensures plan { IfOk result (λ p. (p.base.ticks ≡ example_base) × (p.depth ≡ example_depth) × (p.entries.items ≡ example_entries)) }
+    ensures plan { IfOk result (λ p. (p.base ≡ example_base) × (p.depth ≡ example_depth) × (p.entries ≡ example_entries)) }
     ensures admitted { refusal result ≡ None }
 {
     let mut plan = Plan::empty(heap);
