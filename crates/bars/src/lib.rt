@@ -8,23 +8,12 @@ ghost use Rattle.bars.specs.Lines.{mark, Shows, Column, Line};
 use std::alloc::{AllocError, Global};
 use timetable::table::Timetable;
 
-// Whether both are the same activity, or both nobody.
-fn is_same(owner: Option<u8>, who: Option<u8>) -> bool
-    ensures { Decides result (owner ≡ who) }
-{
-    match (owner, who) {
-        (Some(a), Some(b)) => a == b,
-        (None, None) => true,
-        _ => false,
-    }
-}
-
 // A tick that `who` owns is drawn full, any other as a dot.
 fn bar(owner: Option<u8>, who: Option<u8>) -> char
     ensures value { result ≡ mark owner who }
     ensures ascii { result < 128 }
 {
-    if is_same(owner, who) { '#' } else { '.' }
+    if owner == who { '#' } else { '.' }
 }
 
 // The tick that a column shows; the column of the stroke shows none.
@@ -71,10 +60,5 @@ pub fn line<T: Timetable>(
 pub fn owns_any<T: Timetable>(timetable: &T, who: Option<u8>) -> bool
     ensures { Decides result ((t : ℤ) × (T.Timetable.owner timetable.now t ≡ who)) }
 {
-    for t in 0..timetable.cycle().ticks {
-        if is_same(timetable.owner_at(i32::from(t)), who) {
-            return true;
-        }
-    }
-    false
+    (0..timetable.cycle().ticks).any(|t| timetable.owner_at(i32::from(t)) == who)
 }
