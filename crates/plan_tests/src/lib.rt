@@ -5,39 +5,15 @@
 #[cfg(test)]
 mod tests {
     use bars::line;
-    use cases::{EXAMPLE_ENTRIES, example_plan};
+    use cases::example_plan;
+    use cases::parts::{deep_entries, is_example};
     use clock::{BasePeriod, Cycle, Place};
     use plan::entry::Entry;
     use plan::fault::PlanFault;
     use plan::plan::Plan;
-    use std::alloc::{AllocError, Global};
     use std::test::Fail;
     use timetable::shift::Shift;
     use timetable::table::Timetable;
-
-    // Whether the plan is still the example plan.
-    fn is_example(plan: &Plan) -> bool {
-        plan.base().ticks == 10 && plan.depth() == 2 && plan.entries() == EXAMPLE_ENTRIES.as_slice()
-    }
-
-    // An entry of depth 5, by its place in a row of entries of which no two clash.
-    fn deep_entry(i: u16) -> Entry {
-        Entry {
-            activity: (i % 16) as u8,
-            depth: 5,
-            path: i % 32,
-            offset: i / 32 % 4 * 16,
-            length: 16,
-        }
-    }
-
-    fn deep_entries(heap: Global, count: u16) -> Result<Vec<Entry>, AllocError> {
-        let mut entries = Vec::new(heap);
-        for i in 0..count {
-            entries.push(deep_entry(i))?;
-        }
-        Ok(entries)
-    }
 
     #[test]
     fn places_at_both_ends_of_the_clock(rt: HostRuntime) {
