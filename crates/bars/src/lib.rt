@@ -8,23 +8,12 @@ ghost use Rattle.bars.specs.Lines.{mark, Shows, Column, Line};
 use std::alloc::{AllocError, Global};
 use timetable::table::Timetable;
 
-// Whether both are the same activity, or both nobody.
-fn is_same(owner: Option<u8>, who: Option<u8>) -> bool
-    ensures { Decides result (owner ≡ who) }
-{
-    match (owner, who) {
-        (Some(a), Some(b)) => a == b,
-        (None, None) => true,
-        _ => false,
-    }
-}
-
 // A tick that `who` owns is drawn full, any other as a dot.
 fn bar(owner: Option<u8>, who: Option<u8>) -> char
     ensures value { result ≡ mark owner who }
     ensures ascii { result < 128 }
 {
-    if is_same(owner, who) { '#' } else { '.' }
+    if owner == who { '#' } else { '.' }
 }
 
 // The tick that a column shows; the column of the stroke shows none.
@@ -45,7 +34,7 @@ fn character<T: Timetable>(timetable: &T, who: Option<u8>, column: u16) -> char
     ensures column { Column (T.Timetable.owner timetable.now) (T.Timetable.cycle timetable.now) who column result }
     ensures ascii { result < 128 }
 {
-    match tick_in(column, timetable.cycle().len) {
+    match tick_in(column, timetable.cycle().ticks) {
         Some(t) => bar(timetable.owner_at(t), who),
         None => '|',
     }
@@ -59,7 +48,7 @@ pub fn line<T: Timetable>(
 ) -> Result<String, AllocError>
     ensures { IfOk result (λ s. Line (T.Timetable.owner timetable.now) (T.Timetable.cycle timetable.now) who (string_bytes s)) }
 {
-    let columns = 2 * timetable.cycle().len + 1;
+    let columns = 2 * timetable.cycle().ticks + 1;
     let mut text = String::with_capacity(heap, usize::from(columns))?;
     for column in 0..columns {
         text.push(character(timetable, who, column))?;
@@ -71,10 +60,5 @@ pub fn line<T: Timetable>(
 pub fn owns_any<T: Timetable>(timetable: &T, who: Option<u8>) -> bool
     ensures { Decides result ((t : ℤ) × (T.Timetable.owner timetable.now t ≡ who)) }
 {
-    for t in 0..timetable.cycle().len {
-        if is_same(timetable.owner_at(i32::from(t)), who) {
-            return true;
-        }
-    }
-    false
+    (0..timetable.cycle().ticks).any(|t| timetable.owner_at(i32::from(t)) == who)
 }

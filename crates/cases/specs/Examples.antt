@@ -1,9 +1,10 @@
 -- The worked examples, as one list.
-use Rattle.std.specs.Prelude.{◌≡◌, ℕ, ◌*◌, ◌^◌, ◌<◌, ◌≤◌, Bool, false, cond, not, ◌&&◌, ◌||◌, List, [], ◌∷◌, length, ℤ, pos, negsuc, Some, None, Ok, Err, Option, Result, int_lt}
+use Rattle.std.specs.Prelude.{◌≡◌, ℕ, ◌*◌, ◌/◌, ◌%◌, ◌^◌, ◌<◌, ◌≤◌, Bool, false, cond, not, ◌&&◌, ◌||◌, List, [], ◌∷◌, length, ℤ, pos, negsuc, Some, None, Ok, Err, Option, Result, int_lt}
 use Rattle.level.specs.Ticks.{between, is, is_available, Marking}
 use Rattle.plan.specs.declared.entry.Entry.{Entry}
 use Rattle.plan.specs.Entries.{Clashing}
 use Rattle.plan.specs.Owners.{owner_in}
+use Rattle.plan.specs.Value.{PlanValue}
 use Rattle.reservation.specs.declared.fault.CheckFault.{CheckFault}
 use Rattle.reservation.specs.declared.fault.CheckFault.TheVariants.{Short}
 use Rattle.reservation.specs.declared.reservation.Reservation.{Reservation}
@@ -36,6 +37,14 @@ example_entries =
 abbrev pub example_owner : ℤ → Option ℕ
 example_owner = owner_in example_base example_entries
 
+-- a plan is the example plan
+abbrev pub IsExample : PlanValue → Type 0
+IsExample p = (p.base ≡ example_base) × (p.depth ≡ example_depth) × (p.entries ≡ example_entries)
+
+-- an entry of depth 5 and length 16, by its place in a row
+abbrev pub deep_entry : ℕ → Entry
+deep_entry i = entry (i % 16) 5 (i % 32) (i / 32 % 4 * 16) 16
+
 -- a plan of two frames of four ticks, in which activity 0 owns the first tick and the last
 abbrev pub ends_base : ℕ
 ends_base = 4
@@ -43,9 +52,13 @@ ends_base = 4
 abbrev pub ends_entries : List Entry
 ends_entries = entry 0 1 0 0 1 ∷ entry 0 1 1 3 1 ∷ []
 
+-- a reservation by its activity, ticks and period
+abbrev pub reserve : ℕ → ℕ → ℕ → Reservation
+reserve a x y = record { activity = a; ticks = x; period = y }
+
 -- a list of one reservation: x ticks out of every y for activity 0
 abbrev pub one : ℕ → ℕ → List Reservation
-one x y = record { activity = 0; ticks = x; period = y } ∷ []
+one x y = reserve 0 x y ∷ []
 
 -- where every tick is free, the first reservation of any sound list is short from 0 on
 abbrev pub AlwaysFree : Type 0

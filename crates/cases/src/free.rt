@@ -27,6 +27,6 @@ impl Timetable for Free {
     }
 
     fn cycle(&self) -> Cycle {
-        Cycle { len: 1 }
+        Cycle { ticks: 1 }
     }
 }

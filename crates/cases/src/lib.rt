@@ -6,9 +6,10 @@
 ghost use Rattle.std.specs.Prelude.{◌≡◌, length, IfOk, None};
 ghost use Rattle.std.specs.List.{AllByRecursion};
 ghost use Rattle.plan.specs.Told.{refusal};
-ghost use Rattle.cases.specs.Examples.{example_base, example_depth, example_entries, Holds, examples};
+ghost use Rattle.cases.specs.Examples.{IsExample, Holds, examples};
 
 pub mod free;
+pub mod parts;
 
 use plan::entry::Entry;
 use plan::fault::PlanFault;
@@ -69,7 +70,7 @@ pub const EXAMPLE_ENTRIES: [Entry; 6] = [
 
 /// The example plan. Only want of memory can keep it from being made.
 pub fn example_plan(heap: Global) -> Result<Plan, PlanFault>
-    ensures plan { IfOk result (λ p. (p.base.ticks ≡ example_base) × (p.depth ≡ example_depth) × (p.entries.items ≡ example_entries)) }
+    ensures plan { IfOk result IsExample }
     ensures admitted { refusal result ≡ None }
 {
     let mut plan = Plan::empty(heap);

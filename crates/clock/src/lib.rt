@@ -5,19 +5,18 @@
 ghost use Rattle.std.specs.Prelude.{◌≡◌, ℕ, ◌<◌, ◌≤◌, ℤ, ◌-ℤ◌, MatchOption};
 ghost use Rattle.clock.specs.Floor.{floor_div, floor_mod, Lies};
 
-/// The number of ticks in a frame, 1 to 64.
+/// A number of ticks, 1 to `MOST`.
 #[derive(Clone, Copy, PartialEq, Eq, Debug)]
-pub struct BasePeriod {
+pub struct Span<const MOST: u16> {
     pub ticks: u16,
-    ghost range: { (1 ≤ ticks) × (ticks ≤ 64) },
+    ghost range: { (1 ≤ ticks) × (ticks ≤ MOST) },
 }
 
+/// The number of ticks in a frame, 1 to 64.
+pub type BasePeriod = Span<64>;
+
 /// The length after which something repeats, 1 to 2,048.
-#[derive(Clone, Copy, PartialEq, Eq, Debug)]
-pub struct Cycle {
-    pub len: u16,
-    ghost range: { (1 ≤ len) × (len ≤ 2048) },
-}
+pub type Cycle = Span<2048>;
 
 /// Where a tick lies: in which frame, and how many ticks after that frame's first one.
 #[derive(Clone, Copy, PartialEq, Eq, Debug)]
@@ -26,17 +25,19 @@ pub struct Place {
     pub offset: u16,
 }
 
-impl BasePeriod {
-    /// The base period of that many ticks, or nothing outside 1 to 64.
-    pub fn new(ticks: u16) -> Option<BasePeriod>
-        ensures { MatchOption result ((1 ≤ ticks) × (ticks ≤ 64) → ⊥) (λ b. b.ticks ≡ ticks) }
+impl<const MOST: u16> Span<MOST> {
+    /// The span of that many ticks, or nothing outside 1 to `MOST`.
+    pub fn new(ticks: u16) -> Option<Span<MOST>>
+        ensures { MatchOption result ((1 ≤ ticks) × (ticks ≤ MOST) → ⊥) (λ s. s.ticks ≡ ticks) }
     {
-        if ticks < 1 || 64 < ticks {
+        if ticks < 1 || MOST < ticks {
             return None;
         }
-        Some(BasePeriod { ticks })
+        Some(Span { ticks })
     }
+}
 
+impl BasePeriod {
     fn frame(self, t: i32) -> i32
         ensures { result ≡ floor_div t self.ticks }
     {
@@ -62,21 +63,11 @@ impl BasePeriod {
 }
 
 impl Cycle {
-    /// The cycle of that length, or nothing outside 1 to 2,048.
-    pub fn new(len: u16) -> Option<Cycle>
-        ensures { MatchOption result ((1 ≤ len) × (len ≤ 2048) → ⊥) (λ c. c.len ≡ len) }
-    {
-        if len < 1 || 2048 < len {
-            return None;
-        }
-        Some(Cycle { len })
-    }
-
     /// How far `t` lies into the cycle that begins at `origin`. Their difference may need 33 bits.
     pub fn phase(self, t: i32, origin: i32) -> u16
-        ensures value { result ≡ floor_mod (t -ℤ origin) self.len }
-        ensures within { result < self.len }
+        ensures value { result ≡ floor_mod (t -ℤ origin) self.ticks }
+        ensures within { result < self.ticks }
     {
-        (i64::from(t) - i64::from(origin)).rem_euclid(i64::from(self.len)) as u16
+        (i64::from(t) - i64::from(origin)).rem_euclid(i64::from(self.ticks)) as u16
     }
 }

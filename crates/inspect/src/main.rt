@@ -15,7 +15,7 @@ use timetable::table::Timetable;
 fn print_plan(rt: &HostRuntime, plan: &Plan) -> anyhow::Result<()> {
     let base = plan.base().ticks;
     let depth = plan.depth();
-    let cycle = plan.cycle().len;
+    let cycle = plan.cycle().ticks;
     let entries = plan.entries().len();
     println!(rt; "base period {base}, depth {depth}, cycle {cycle}, {entries} entries")?;
     println!(rt; "ticks -{cycle} to -1 stand left of the stroke, 0 on right of it")?;

@@ -1,5 +1,5 @@
 -- What filling a plan leaves behind, and what a clash that it tells is.
-use Rattle.std.specs.Prelude.{◌≡◌, ℕ, List, ℤ, Ok, Err, vec_items, Result}
+use Rattle.std.specs.Prelude.{◌≡◌, ℕ, List, ℤ, Ok, Err, Result}
 use Rattle.plan.specs.declared.entry.Entry.{Entry}
 use Rattle.plan.specs.declared.fault.PlanFault.{PlanFault}
 use Rattle.plan.specs.declared.fault.PlanFault.TheVariants.{Dimensions, TooManyEntries, OutOfRange, Clash, Memory}
@@ -8,7 +8,7 @@ use Rattle.plan.specs.Entries.{Owns, at}
 
 -- a plan that was filled has what it was given, and one that was refused is what it was
 abbrev pub Filled : {U : Type 0} → ℕ → ℕ → List Entry → Plan → Plan → Result U PlanFault → Type 0
-Filled b d es before after (Ok _) = (after.base.ticks ≡ b) × (after.depth ≡ d) × (vec_items after.entries ≡ es)
+Filled b d es before after (Ok _) = (after.base ≡ b) × (after.depth ≡ d) × (after.entries ≡ es)
 Filled b d es before after (Err _) = after ≡ before
 
 -- two entries that are told to clash do own a tick in common

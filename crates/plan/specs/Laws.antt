@@ -1,18 +1,17 @@
 -- Why a plan is a timetable: its owners repeat after the cycle, and are known activities.
-use Rattle.std.specs.Prelude.{◌≡◌, ℕ, ◌+◌, ◌-◌, ◌*◌, ◌%◌, ◌^◌, ◌<◌, ◌≤◌, Bool, true, false, cond, List, [], ◌∷◌, length, drop, ℤ, pos, ◌+ℤ◌, ◌-ℤ◌, Some, None, Option, refl}
-use Rattle.std.proofs.Common.{pow_mono, sym, ap, ◌∙◌, mul_comm, arith}
+use Rattle.std.specs.Prelude.{◌≡◌, ℕ, ◌+◌, ◌-◌, ◌*◌, ◌%◌, ◌^◌, ◌<◌, ◌≤◌, Bool, true, false, cond, List, [], ◌∷◌, length, find, ℤ, pos, ◌+ℤ◌, Some, Option, refl}
+use Rattle.std.specs.Option.{option_map}
+use Rattle.std.proofs.Common.{pow_mono, ap, ◌∙◌, mul_comm, arith}
 use Rattle.std.proofs.lemmas.Nat.{pow_pos, pow-add, mul-le}
 use Rattle.std.proofs.ByRecursion.{All-from_get_or}
-use Rattle.std.proofs.lemmas.List.{at_drop_more, at_drop_all}
-use Rattle.std.proofs.lemmas.Int.{ints}
 use Rattle.std.specs.List.{AllByRecursion}
 use Rattle.clock.proofs.Laws.{floor_mod_more, floor_div_more, floor_mod-mod, lies_once}
 use Rattle.clock.specs.Floor.{floor_div, floor_mod, Lies}
 use Rattle.timetable.specs.Owners.{Known}
 use Rattle.plan.specs.declared.entry.Entry.{Entry}
-use Rattle.plan.specs.Entries.{InRange, owns, covers, blank, at}
+use Rattle.plan.specs.Entries.{InRange, owns, covers, blank}
 use Rattle.plan.specs.Owners.{owner_in}
-use Rattle.plan.specs.Told.{Ranged}
+use Rattle.plan.specs.Told.{Ranged, Sound}
 
 pub cycle_least : (b d : ℕ) → 1 ≤ b → 1 ≤ b * 2 ^ d
 cycle_least b d h = omega (arith, mul-le 1 1 b (2 ^ d) h (pow_pos d))
@@ -60,22 +59,21 @@ owner_known b d t [] w = tt
 owner_known b d t (e ∷ es) w = chosen_known (owns b e t) e.activity (owner_in b es t) w.0.0 (owner_known b d t es w.1)
 
 -- both for the entries of a plan, which are in range one by one
-pub owner_repeats : (t : ℤ) (b d n : ℕ) (es : List Entry) → 1 ≤ b → n ≡ length es → Ranged b d es n → owner_in b es (t +ℤ pos (b * 2 ^ d)) ≡ owner_in b es t
-owner_repeats t b d n es h e w = owner_again t b d (omega arith) es (all_ranged b d es (λ k l. w k (omega arith)))
+pub owner_repeats : (t : ℤ) (b d : ℕ) (es : List Entry) → Sound b d es → owner_in b es (t +ℤ pos (b * 2 ^ d)) ≡ owner_in b es t
+owner_repeats t b d es s = owner_again t b d s.shaped.0 es (all_ranged b d es s.ranged)
 
-pub owner_stays_known : (t : ℤ) (b d n : ℕ) (es : List Entry) → n ≡ length es → Ranged b d es n → Known (owner_in b es t)
-owner_stays_known t b d n es e w = owner_known b d t es (all_ranged b d es (λ k l. w k (omega arith)))
+pub owner_stays_known : (t : ℤ) (b d : ℕ) (es : List Entry) → Ranged b d es (length es) → Known (owner_in b es t)
+owner_stays_known t b d es w = owner_known b d t es (all_ranged b d es w)
 
 -- where a tick lies, as the search asks for it: its frame's residue at the depth of the plan, and its offset
 pub record Sought (b d : ℕ) (t : ℤ) (n o : ℕ) : Type 0 where
   pub residue : n ≡ floor_mod (floor_div t b) (2 ^ d)
   pub offset : o ≡ floor_mod t b
 
-pub sought : (b d : ℕ) {t f g : ℤ} {n o : ℕ} → Lies t b f o → g ≡ f → n ≡ floor_mod (g -ℤ pos 0) (2 ^ d) → Sought b d t n o
+pub sought : (b d : ℕ) {t f g : ℤ} {n o : ℕ} → Lies t b f o → g ≡ f → n ≡ floor_mod g (2 ^ d) → Sought b d t n o
 sought b d {t} {f} {g} {n} {o} l p r =
     let once = lies_once t b f o l in
-    let z : g -ℤ pos 0 ≡ floor_div t b = omega (arith, ints, p, once.0) in
-    record { residue = r ∙ ap (λ x. floor_mod x (2 ^ d)) z; offset = once.1 }
+    record { residue = r ∙ ap (λ x. floor_mod x (2 ^ d)) (p ∙ once.0); offset = once.1 }
 
 covers_owns : (b d : ℕ) (e : Entry) {t : ℤ} {n o : ℕ} → Sought b d t n o → e.depth ≤ d → covers e n o ≡ owns b e t
 covers_owns b d e {t} {n} {o} s h =
@@ -84,19 +82,17 @@ covers_owns b d e {t} {n} {o} s h =
     let q = s.offset in
     cc
 
--- the steps of a search from the front of the list
-module _ (b d : ℕ) (es : List Entry) (i : ℕ) {t : ℤ} {n o : ℕ} (s : Sought b d t n o) (w : Ranged b d es (length es)) where
-  here : i < length es → covers (at es i) n o ≡ owns b (at es i) t
-  here l = covers_owns b d (at es i) s (w i l).1
+-- the first entry that covers the place is the one that the owner is read from
+activity_of : (x : Bool) (e : Entry) (o : Option Entry) → option_map (λ e. e.activity) (cond x (Some e) o) ≡ cond x (Some e.activity) (option_map (λ e. e.activity) o)
+activity_of true e o = refl
+activity_of false e o = refl
 
-  ahead : i < length es → owner_in b (drop i es) t ≡ cond (covers (at es i) n o) (Some (at es i).activity) (owner_in b (drop (i + 1) es) t)
-  ahead l = at_drop_more (λ ys. owner_in b ys t) es i blank l ∙ ap (λ x. cond x (Some (at es i).activity) (owner_in b (drop (i + 1) es) t)) (sym (here l))
+cover_among : (b d : ℕ) {t : ℤ} {n o : ℕ} → Sought b d t n o → (es : List Entry) → AllByRecursion (InRange b d) es → option_map (λ e. e.activity) (find (λ e. covers e n o) es) ≡ owner_in b es t
+cover_among b d s [] w = refl
+cover_among b d {t} {n} {o} s (e ∷ es) w =
+    let h = covers_owns b d e s w.0.1 in
+    let r = cover_among b d s es w.1 in
+    activity_of (covers e n o) e (find (λ e. covers e n o) es) ∙ cc
 
-  pub owner_later : i < length es → false ≡ covers (at es i) n o → owner_in b (drop i es) t ≡ owner_in b es t → owner_in b (drop (i + 1) es) t ≡ owner_in b es t
-  owner_later l h e = ap (λ x. cond x (Some (at es i).activity) (owner_in b (drop (i + 1) es) t)) h ∙ sym (ahead l) ∙ e
-
-  pub owner_here : i < length es → true ≡ covers (at es i) n o → owner_in b (drop i es) t ≡ owner_in b es t → Some (at es i).activity ≡ owner_in b es t
-  owner_here l h e = ap (λ x. cond x (Some (at es i).activity) (owner_in b (drop (i + 1) es) t)) h ∙ sym (ahead l) ∙ e
-
-pub owner_none : (b : ℕ) (es : List Entry) (i : ℕ) (t : ℤ) → length es ≤ i → owner_in b (drop i es) t ≡ owner_in b es t → None ≡ owner_in b es t
-owner_none b es i t l e = sym (at_drop_all (λ ys. owner_in b ys t) es i l) ∙ e
+pub cover_owner : (b d : ℕ) {t : ℤ} {n o : ℕ} (es : List Entry) → Sought b d t n o → Ranged b d es (length es) → option_map (λ e. e.activity) (find (λ e. covers e n o) es) ≡ owner_in b es t
+cover_owner b d es s w = cover_among b d s es (all_ranged b d es w)

@@ -2,8 +2,11 @@
 ghost use Rattle.std.specs.Prelude.{◌≡◌, ℕ, ◌%◌, ◌^◌, ◌≤◌, Decides};
 ghost use Rattle.plan.specs.Entries.{InRange, Clashing, covers};
 
+use crate::depth::Depth;
+use clock::BasePeriod;
+
 /// The activity that owns `length` ticks from `offset` on, in every frame that is `path` modulo 2 to the `depth`.
-#[derive(Clone, Copy, PartialEq, Eq, Debug)]
+#[derive(Clone, Copy, PartialEq, Eq, Default, Debug)]
 pub struct Entry {
     pub activity: u8,
     pub depth: u8,
@@ -12,34 +15,27 @@ pub struct Entry {
     pub length: u16,
 }
 
-// How many frames there are on all paths of this depth together.
-pub(crate) fn frames(depth: u8) -> u16
-    requires { depth ≤ 5 }
-    ensures { result ≡ 2 ^ depth }
+// What is left of a path at any depth: from 16 on, all of it.
+fn shortened(path: u16, depth: u8) -> u16
+    ensures { result ≡ path % 2 ^ depth }
 {
-    1u16 << depth
-}
-
-// What is left of a frame or a path at this depth.
-fn residue(n: u16, depth: u8) -> u16
-    requires { depth ≤ 5 }
-    ensures { result ≡ n % 2 ^ depth }
-{
-    n & (frames(depth) - 1)
+    match 1u16.checked_shl(u32::from(depth)) {
+        Some(paths) => path & (paths - 1),
+        None => path,
+    }
 }
 
 impl Entry {
     // Whether every field is in range, in a plan of this base period and depth.
-    pub(crate) fn is_in_range(&self, base: u16, depth: u8) -> bool
-        requires { depth ≤ 5 }
-        ensures { Decides result (InRange base depth self.now) }
+    pub(crate) fn is_in_range(&self, base: BasePeriod, depth: Depth) -> bool
+        ensures { Decides result (InRange base.ticks depth.levels self.now) }
     {
         self.activity <= 15
-            && self.depth <= depth
-            && self.path < frames(self.depth)
+            && self.depth <= depth.levels
+            && self.path < (Depth { levels: self.depth }).paths()
             && 1 <= self.length
-            && self.offset <= base
-            && self.length <= base - self.offset
+            && self.offset <= base.ticks
+            && self.length <= base.ticks - self.offset
     }
 
     // Whether the entry owns the tick at this offset of a frame, by the frame's residue at a depth no smaller than its own.
@@ -49,16 +45,15 @@ impl Entry {
     {
         self.offset <= offset
             && offset - self.offset < self.length
-            && residue(frame, self.depth) == self.path
+            && (Depth { levels: self.depth }).residue(frame) == self.path
     }
 
     // Whether the two own a tick in common.
     pub(crate) fn clashes(&self, other: &Entry) -> bool
-        requires { self.now.depth ≤ 5 }
         ensures { Decides result (Clashing self.now other.now) }
     {
         let shallower = self.depth.min(other.depth);
-        residue(self.path, shallower) == residue(other.path, shallower)
+        shortened(self.path, shallower) == shortened(other.path, shallower)
             && u32::from(self.offset) < u32::from(other.offset) + u32::from(other.length)
             && u32::from(other.offset) < u32::from(self.offset) + u32::from(self.length)
     }

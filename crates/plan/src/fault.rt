@@ -4,21 +4,25 @@ ghost use Rattle.plan.specs.Numbers.{number_of};
 ghost use Rattle.plan.specs.declared.fault.PlanFault.TheVariants.{Memory};
 
 use std::alloc::AllocError;
-use std::error::Error;
-use std::fmt;
+use thiserror::Error;
 
 /// A refusal of a plan, with what it tells besides its number. Indices count from 0.
-#[derive(Clone, Copy, PartialEq, Eq, Debug)]
+#[derive(Clone, Copy, PartialEq, Eq, Debug, Error)]
 pub enum PlanFault {
     /// 21: the base period or the depth is outside its range.
+    #[error("21: the base period is outside 1 to 64, or the depth above 5")]
     Dimensions,
     /// 22: there are over 120 entries.
+    #[error("22: over 120 entries")]
     TooManyEntries,
     /// 23: a field of this entry, the first such one, is outside its range.
+    #[error("23: a field of entry {index} is outside its range")]
     OutOfRange { index: usize },
     /// 24: these two entries clash. No pair with a smaller later index does, nor one with this later and a smaller earlier one.
+    #[error("24: entry {later} clashes with entry {earlier}")]
     Clash { later: usize, earlier: usize },
     /// There was no memory for the entries. It has no number, since the plan itself is sound.
+    #[error("no memory for the plan")]
     Memory,
 }
 
@@ -44,26 +48,3 @@ impl From<AllocError> for PlanFault {
         PlanFault::Memory
     }
 }
-
-impl fmt::Display for PlanFault {
-    fn fmt<W: fmt::Write>(&self, f: &mut fmt::Formatter<W>) -> fmt::Result {
-        match self {
-            PlanFault::Dimensions => write!(
-                f,
-                "21: the base period is outside 1 to 64, or the depth above 5"
-            ),
-            PlanFault::TooManyEntries => write!(f, "22: over 120 entries"),
-            PlanFault::OutOfRange { index } => write!(
-                f,
-                "23: a field of entry {index} is outside its range"
-            ),
-            PlanFault::Clash { later, earlier } => write!(
-                f,
-                "24: entry {later} clashes with entry {earlier}"
-            ),
-            PlanFault::Memory => write!(f, "no memory for the plan"),
-        }
-    }
-}
-
-impl Error for PlanFault {}

@@ -4,6 +4,7 @@ ghost use Rattle.plan.specs.Entries.{NoClash, at};
 ghost use Rattle.plan.specs.Filled.{Filled, Shared};
 ghost use Rattle.plan.specs.Told.{Told, Only, Ranged, FirstOutside, FirstClash};
 
+use crate::depth::Depth;
 use crate::entry::Entry;
 use crate::fault::PlanFault;
 use crate::plan::Plan;
@@ -16,21 +17,17 @@ pub const MOST_ENTRIES: usize = 120;
 pub const MOST_DEPTH: u8 = 5;
 
 // The index of the first entry with a field outside its range.
-fn first_outside(base: BasePeriod, depth: u8, entries: &[Entry]) -> Option<usize>
-    requires { depth ≤ 5 }
-    ensures { MatchOption result (Ranged base.ticks depth entries.now (length entries.now)) (FirstOutside base.ticks depth entries.now) }
+fn first_outside(base: BasePeriod, depth: Depth, entries: &[Entry]) -> Option<usize>
+    ensures { MatchOption result (Ranged base.ticks depth.levels entries.now (length entries.now)) (FirstOutside base.ticks depth.levels entries.now) }
 {
-    for (index, entry) in entries.iter().enumerate() {
-        if !entry.is_in_range(base.ticks, depth) {
-            return Some(index);
-        }
-    }
-    None
+    entries
+        .iter()
+        .position(|entry| !entry.is_in_range(base, depth))
 }
 
 // The first pair of entries that clash: the smallest later index, and with it the smallest earlier one.
+// Two loops left at the first clash with its pair, as the form was asked for, since their order is what makes it the first.
 fn first_clash(entries: &[Entry]) -> Option<(usize, usize)>
-    requires { (k : ℕ) → k < length entries.now → (at entries.now k).depth ≤ 5 }
     ensures { MatchOption result (NoClash entries.now (length entries.now)) (λ p. FirstClash entries.now p.0 p.1) }
 {
     'pairs: {
@@ -45,27 +42,23 @@ fn first_clash(entries: &[Entry]) -> Option<(usize, usize)>
     }
 }
 
-// The base period, where base, depth and entries make a plan.
-fn examine(base: u16, depth: u8, entries: &[Entry]) -> Result<BasePeriod, PlanFault>
+// The base period and the depth, where these and the entries make a plan.
+fn examine(base: u16, depth: u8, entries: &[Entry]) -> Result<(BasePeriod, Depth), PlanFault>
     ensures told { Told base depth entries.now result }
-    ensures made { IfOk result (λ b. b.ticks ≡ base) }
+    ensures made { IfOk result (λ p. (p.0.ticks ≡ base) × (p.1.levels ≡ depth)) }
 {
-    let Some(period) = BasePeriod::new(base) else {
-        return Err(PlanFault::Dimensions);
-    };
-    if depth > MOST_DEPTH {
-        return Err(PlanFault::Dimensions);
-    }
+    let base = BasePeriod::new(base).ok_or(PlanFault::Dimensions)?;
+    let depth = Depth::new(depth).ok_or(PlanFault::Dimensions)?;
     if entries.len() > MOST_ENTRIES {
         return Err(PlanFault::TooManyEntries);
     }
-    if let Some(index) = first_outside(period, depth, entries) {
+    if let Some(index) = first_outside(base, depth, entries) {
         return Err(PlanFault::OutOfRange { index });
     }
     if let Some((later, earlier)) = first_clash(entries) {
         return Err(PlanFault::Clash { later, earlier });
     }
-    Ok(period)
+    Ok((base, depth))
 }
 
 impl Plan {
@@ -76,9 +69,9 @@ impl Plan {
         ensures after { Filled base depth entries.now self.old self.new result }
         ensures shared { Shared base entries.now result }
     {
-        let period = examine(base, depth, entries)?;
+        let (base, depth) = examine(base, depth, entries)?;
         let copy = Vec::from_slice(*self.entries.allocator(), entries)?;
-        self.base = period;
+        self.base = base;
         self.depth = depth;
         self.entries = copy;
         Ok(())

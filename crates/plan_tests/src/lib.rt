@@ -5,39 +5,15 @@
 #[cfg(test)]
 mod tests {
     use bars::line;
-    use cases::{EXAMPLE_ENTRIES, example_plan};
+    use cases::example_plan;
+    use cases::parts::{deep_entries, is_example};
     use clock::{BasePeriod, Cycle, Place};
     use plan::entry::Entry;
     use plan::fault::PlanFault;
     use plan::plan::Plan;
-    use std::alloc::{AllocError, Global};
     use std::test::Fail;
     use timetable::shift::Shift;
     use timetable::table::Timetable;
-
-    // Whether the plan is still the example plan.
-    fn is_example(plan: &Plan) -> bool {
-        plan.base().ticks == 10 && plan.depth() == 2 && plan.entries() == EXAMPLE_ENTRIES.as_slice()
-    }
-
-    // An entry of depth 5, by its place in a row of entries of which no two clash.
-    fn deep_entry(i: u16) -> Entry {
-        Entry {
-            activity: (i % 16) as u8,
-            depth: 5,
-            path: i % 32,
-            offset: i / 32 % 4 * 16,
-            length: 16,
-        }
-    }
-
-    fn deep_entries(heap: Global, count: u16) -> Result<Vec<Entry>, AllocError> {
-        let mut entries = Vec::new(heap);
-        for i in 0..count {
-            entries.push(deep_entry(i))?;
-        }
-        Ok(entries)
-    }
 
     #[test]
     fn places_at_both_ends_of_the_clock(rt: HostRuntime) {
@@ -85,10 +61,10 @@ mod tests {
 
     #[test]
     fn phases_of_33_bit_differences(rt: HostRuntime) {
-        let long = Cycle { len: 2048 };
+        let long = Cycle { ticks: 2048 };
         assert_eq!(rt; long.phase(i32::MAX, i32::MIN), 2047);
         assert_eq!(rt; long.phase(i32::MIN, i32::MAX), 1);
-        let odd = Cycle { len: 7 };
+        let odd = Cycle { ticks: 7 };
         assert_eq!(rt; odd.phase(i32::MAX, i32::MIN), 3);
         assert_eq!(rt; odd.phase(i32::MIN, i32::MAX), 4);
         assert!(rt; Cycle::new(1).is_some() && Cycle::new(2048).is_some());
@@ -104,7 +80,7 @@ mod tests {
         assert_eq!(rt; plan.owner_at(-1), Some(5));
         assert_eq!(rt; plan.owner_at(0), Some(1));
         assert_eq!(rt; plan.owner_at(i32::MAX), Some(0));
-        assert_eq!(rt; plan.cycle().len, 40);
+        assert_eq!(rt; plan.cycle().ticks, 40);
         Ok(())
     }
 
@@ -117,7 +93,7 @@ mod tests {
         let both = Shift::new(later, i32::MIN);
         assert_eq!(rt; both.owner_at(i32::MIN), Some(4));
         assert_eq!(rt; both.owner_at(-1), Some(1));
-        assert_eq!(rt; both.cycle().len, 40);
+        assert_eq!(rt; both.cycle().ticks, 40);
         Ok(())
     }
 
@@ -125,10 +101,10 @@ mod tests {
     fn a_full_plan(rt: HostRuntime) -> Result<(), Fail> {
         let mut plan = Plan::empty(rt.alloc());
         assert_eq!(rt; plan.owner_at(i32::MIN), None);
-        assert_eq!(rt; plan.cycle().len, 1);
+        assert_eq!(rt; plan.cycle().ticks, 1);
         let entries = deep_entries(rt.alloc(), 120)?;
         plan.fill(64, 5, entries.as_slice())?;
-        assert_eq!(rt; plan.cycle().len, 2048);
+        assert_eq!(rt; plan.cycle().ticks, 2048);
         assert_eq!(rt; plan.entries().len(), 120);
         assert_eq!(rt; plan.owner_at(-1), None);
         assert_eq!(rt; plan.owner_at(-17), Some(15));

@@ -1,5 +1,7 @@
 -- How the count of a window changes as the window grows, moves, and comes round.
-use Rattle.std.proofs.Common.{◌≡◌, ℕ, zero, suc, ◌+◌, ◌<◌, ◌≤◌, cond, ℤ, pos, ◌+ℤ◌, Option, refl, ap, ◌∙◌, arith}
+use Rattle.std.proofs.Common.{◌≡◌, ℕ, zero, suc, ◌+◌, ◌<◌, ◌≤◌, cond, map, ℤ, pos, ◌+ℤ◌, sum_by, Option, refl, ap, ◌∙◌, arith}
+use Rattle.std.specs.List.{range_with_len}
+use Rattle.std.proofs.lemmas.List.FromFn.{sum_by-map-range_with_len_more}
 use Rattle.std.proofs.lemmas.Int.{ints}
 use Rattle.clock.specs.Floor.{floor_mod}
 use Rattle.clock.proofs.Laws.{floor_mod_lt, repeats_mod}
@@ -58,4 +60,17 @@ pub served_by_cycle : (owner : ℤ → Option ℕ) (l : ℕ) → 0 < l → ((t :
 served_by_cycle owner l h again a x y cycle t =
     let k = cycle (floor_mod t l) (floor_mod_lt t l h) in
     let e = repeats_mod (λ s. owned owner a s y) l h (λ s. owned_again owner l again a y s) t in
+    omega arith
+
+-- the count as a sum over the ticks
+pub owned_sum : (owner : ℤ → Option ℕ) (a n : ℕ) → owned owner a (pos 0) n ≡ sum_by (λ k. k) (map (λ k. owned_at owner a (pos k)) (range_with_len 0 n))
+owned_sum owner a zero = refl
+owned_sum owner a (suc n) =
+    let h = owned_sum owner a n in
+    let z : 0 + n ≡ n = omega arith in
+    let s : suc n ≡ n + 1 = omega arith in
+    let p : pos 0 +ℤ pos n ≡ pos n = omega (arith, ints) in
+    let m = sum_by-map-range_with_len_more (λ k. k) (λ k. owned_at owner a (pos k)) 0 n n z in
+    let e = ap (λ k. sum_by (λ k. k) (map (λ k. owned_at owner a (pos k)) (range_with_len 0 k))) s in
+    let f = ap (owned_at owner a) p in
     omega arith

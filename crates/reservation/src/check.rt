@@ -1,7 +1,7 @@
 // The check of a list of reservations against a timetable.
-ghost use Rattle.std.specs.Prelude.{◌≡◌, ℕ, ◌<◌, ◌≤◌, length, Err, MatchBool, sum_by, MatchOption, ◌≢◌};
+ghost use Rattle.std.specs.Prelude.{◌≡◌, ℕ, ◌<◌, ◌≤◌, length, All, ℤ, Option, Err, MatchResult, MatchBool, sum_by, MatchOption, ◌≢◌};
 ghost use Rattle.reservation.specs.declared.fault.CheckFault.TheVariants.{Overbooked};
-ghost use Rattle.reservation.specs.Reservations.{Ranged, Repeats, New, Distinct, AllServed, share};
+ghost use Rattle.reservation.specs.Reservations.{InRange, Ranged, Repeats, New, Distinct, AllServed, at, share};
 ghost use Rattle.reservation.specs.Told.{FirstOutside, FirstTwice, FirstUnserved, Told, Only};
 
 use crate::fault::CheckFault;
@@ -16,85 +16,90 @@ pub const MOST_RESERVATIONS: usize = 16;
 fn first_outside(list: &[Reservation]) -> Option<usize>
     ensures { MatchOption result (Ranged list.now (length list.now)) (FirstOutside list.now) }
 {
-    for (index, reservation) in list.iter().enumerate() {
-        if !reservation.is_in_range() {
-            return Some(index);
-        }
-    }
-    None
+    list.iter()
+        .position(|reservation| !reservation.is_in_range())
 }
 
-// Whether an earlier reservation is for the same activity as the one at `index`.
-fn repeats(list: &[Reservation], index: usize) -> bool
-    requires { index < length list.now }
-    ensures { MatchBool result (Repeats list.now index) (New list.now index) }
+// Whether one of the first `count` reservations is for the activity.
+fn is_among(list: &[Reservation], count: usize, activity: u8) -> bool
+    ensures { MatchBool result ((k : ℕ) × (k < count) × (k < length list.now) × ((at list.now k).activity ≡ activity)) ((k : ℕ) → k < count → k < length list.now → (at list.now k).activity ≢ activity) }
 {
-    for earlier in 0..index {
-        if list[earlier].activity == list[index].activity {
-            return true;
-        }
-    }
-    false
+    list.iter()
+        .take(count)
+        .any(|earlier| earlier.activity == activity)
 }
 
-// The index of the first reservation for an activity that has one already.
-fn first_twice(list: &[Reservation]) -> Option<usize>
-    ensures { MatchOption result (Distinct list.now (length list.now)) (FirstTwice list.now) }
-{
-    for index in 0..list.len() {
-        if repeats(list, index) {
-            return Some(index);
-        }
-    }
-    None
+// A list of few enough reservations, each of them in range.
+#[derive(Clone, Copy)]
+struct Listed<'a> {
+    list: &'a [Reservation],
+    ghost few: { length list.now ≤ 16 },
+    ghost ranged: { All InRange list.now },
 }
 
-// The index of the first reservation that is not served, with its first short window.
-fn first_unserved<T: Timetable>(timetable: &T, list: &[Reservation]) -> Option<(usize, Window)>
-    requires { Ranged list.now (length list.now) }
-    ensures { MatchOption result (AllServed (T.Timetable.owner timetable.now) list.now (length list.now)) (λ p. FirstUnserved (T.Timetable.owner timetable.now) (T.Timetable.cycle timetable.now) list.now p.0 p.1.start p.1.found) }
-{
-    for (index, reservation) in list.iter().enumerate() {
-        if let Some(window) = first_short(timetable, reservation) {
-            return Some((index, window));
+impl<'a> Listed<'a> {
+    // The list as such a list, or its first refusal.
+    fn new(list: &'a [Reservation]) -> Result<Listed<'a>, CheckFault>
+        ensures { MatchResult result (λ l. l.list.now ≡ list.now) (λ f. (owner : ℤ → Option ℕ) (cycle : ℕ) → Told owner cycle list.now (Err f)) }
+    {
+        if list.len() > MOST_RESERVATIONS {
+            return Err(CheckFault::TooMany);
         }
+        if let Some(index) = first_outside(list) {
+            return Err(CheckFault::OutOfRange { index });
+        }
+        Ok(Listed { list })
     }
-    None
-}
 
-// The millionths of all ticks that are reserved, each reservation's rounded down.
-fn shares(list: &[Reservation]) -> u32
-    requires { (length list.now ≤ 16) × (Ranged list.now (length list.now)) }
-    ensures { result ≡ sum_by share list.now }
-{
-    let mut sum = 0;
-    for reservation in list {
-        sum += 1_000_000 * u32::from(reservation.ticks) / u32::from(reservation.period);
+    // The index of the first reservation for an activity that has one already.
+    fn first_twice(&self) -> Option<usize>
+        ensures { MatchOption result (Distinct self.now.list.now (length self.now.list.now)) (FirstTwice self.now.list.now) }
+    {
+        let list = self.list;
+        list.iter().enumerate().position(|(index, reservation)| is_among(
+            list,
+            index,
+            reservation.activity,
+        ))
     }
-    sum
+
+    // The index of the first reservation that is not served, with its first short window.
+    fn first_unserved<T: Timetable>(&self, timetable: &T) -> Option<(usize, Window)>
+        ensures { MatchOption result (AllServed (T.Timetable.owner timetable.now) self.now.list.now (length self.now.list.now)) (λ p. FirstUnserved (T.Timetable.owner timetable.now) (T.Timetable.cycle timetable.now) self.now.list.now p.0 p.1.start p.1.found) }
+    {
+        self.list.iter().enumerate().find_map(|(index, reservation)| {
+            let window = first_short(timetable, reservation)?;
+            Some((index, window))
+        })
+    }
+
+    // The millionths of all ticks that are reserved, each reservation's rounded down.
+    fn shares(&self) -> u32
+        ensures { result ≡ sum_by share self.now.list.now }
+    {
+        self.list
+            .iter()
+            .map(|reservation| reservation.share())
+            .sum()
+    }
 }
 
 // Each test over the whole list before the next, in the order of the refusals' numbers.
 fn examine<T: Timetable>(timetable: &T, list: &[Reservation]) -> Result<(), CheckFault>
     ensures { Told (T.Timetable.owner timetable.now) (T.Timetable.cycle timetable.now) list.now result }
 {
-    if list.len() > MOST_RESERVATIONS {
-        return Err(CheckFault::TooMany);
-    }
-    if let Some(index) = first_outside(list) {
-        return Err(CheckFault::OutOfRange { index });
-    }
-    if let Some(index) = first_twice(list) {
+    let listed = Listed::new(list)?;
+    if let Some(index) = listed.first_twice() {
         return Err(CheckFault::Twice { index });
     }
-    if let Some((index, window)) = first_unserved(timetable, list) {
+    if let Some((index, window)) = listed.first_unserved(timetable) {
         return Err(CheckFault::Short {
             index,
             start: window.start,
             found: window.found,
         });
     }
-    if shares(list) > 1_000_000 {
+    if listed.shares() > 1_000_000 {
         return Err(CheckFault::Overbooked);
     }
     Ok(())

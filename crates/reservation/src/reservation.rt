@@ -1,12 +1,12 @@
 // One reservation.
-ghost use Rattle.std.specs.Prelude.{◌≡◌, ℕ, Decides};
-ghost use Rattle.reservation.specs.Reservations.{InRange};
+ghost use Rattle.std.specs.Prelude.{◌≡◌, ℕ, ◌≤◌, Decides};
+ghost use Rattle.reservation.specs.Reservations.{InRange, share};
 
 /// The longest period of a reservation.
 pub const MOST_PERIOD: u16 = 4096;
 
 /// The activity is to own at least `ticks` of any `period` ticks in a row.
-#[derive(Clone, Copy, PartialEq, Eq, Debug)]
+#[derive(Clone, Copy, PartialEq, Eq, Default, Debug)]
 pub struct Reservation {
     pub activity: u8,
     pub ticks: u16,
@@ -22,5 +22,13 @@ impl Reservation {
             && 1 <= self.ticks
             && self.ticks <= self.period
             && self.period <= MOST_PERIOD
+    }
+    // The millionths of all ticks that it asks for, rounded down.
+    pub(crate) fn share(&self) -> u32
+        requires { InRange self.now }
+        ensures value { result ≡ share self.now }
+        ensures most { result ≤ 1000000 }
+    {
+        1_000_000 * u32::from(self.ticks) / u32::from(self.period)
     }
 }

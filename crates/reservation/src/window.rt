@@ -20,21 +20,14 @@ fn owned_at<T: Timetable>(timetable: &T, activity: u8, t: u16) -> u16
     ensures value { result ≡ owned_at (T.Timetable.owner timetable.now) activity (pos t) }
     ensures most { result ≤ 1 }
 {
-    match timetable.owner_at(i32::from(t)) {
-        Some(owner) => if owner == activity { 1 } else { 0 },
-        None => 0,
-    }
+    u16::from(timetable.owner_at(i32::from(t)) == Some(activity))
 }
 
 // How many of the first `len` ticks from 0 the activity owns.
 fn count_first<T: Timetable>(timetable: &T, activity: u8, len: u16) -> u16
     ensures { result ≡ owned (T.Timetable.owner timetable.now) activity (pos 0) len }
 {
-    let mut count = 0;
-    for t in 0..len {
-        count += owned_at(timetable, activity, t);
-    }
-    count
+    (0..len).map(|t| owned_at(timetable, activity, t)).sum()
 }
 
 // The first window, at 0 or later, that is too short for the reservation.
@@ -45,7 +38,7 @@ pub(crate) fn first_short<T: Timetable>(timetable: &T, reservation: &Reservation
 {
     let activity = reservation.activity;
     let mut found = count_first(timetable, activity, reservation.period);
-    for start in 0..timetable.cycle().len {
+    for start in 0..timetable.cycle().ticks {
         if found < reservation.ticks {
             return Some(Window { start, found });
         }

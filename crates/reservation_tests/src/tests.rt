@@ -1,6 +1,7 @@
 // Every refusal, through a plan and through shifts of it, and the edges of the ranges.
 use cases::example_plan;
 use cases::free::Free;
+use cases::parts::{entry, reserve};
 use plan::entry::Entry;
 use plan::fault::PlanFault;
 use plan::plan::Plan;
@@ -8,26 +9,9 @@ use reservation::check::check;
 use reservation::fault::CheckFault;
 use reservation::reservation::Reservation;
 use std::alloc::Global;
+use std::array;
 use std::test::Fail;
 use timetable::shift::Shift;
-
-fn entry(activity: u8, depth: u8, path: u16, offset: u16, length: u16) -> Entry {
-    Entry {
-        activity,
-        depth,
-        path,
-        offset,
-        length,
-    }
-}
-
-fn reserve(activity: u8, ticks: u16, period: u16) -> Reservation {
-    Reservation {
-        activity,
-        ticks,
-        period,
-    }
-}
 
 fn plan(heap: Global, base: u16, depth: u8, entries: &[Entry]) -> Result<Plan, PlanFault> {
     let mut plan = Plan::empty(heap);
@@ -49,20 +33,12 @@ fn outside(index: usize) -> Result<(), CheckFault> {
 
 // The activities 0, 1, 2 and so on, each 1 tick out of every 16: together all ticks, exactly.
 fn turns() -> [Reservation; 17] {
-    let mut list = [reserve(0, 1, 16); 17];
-    for k in 0..17u8 {
-        list[usize::from(k)] = reserve(k, 1, 16);
-    }
-    list
+    array::from_fn(|k| reserve(k as u8, 1, 16))
 }
 
 // A frame of 16 ticks, one for each activity.
 fn slots() -> [Entry; 16] {
-    let mut entries = [entry(0, 0, 0, 0, 1); 16];
-    for k in 0..16u8 {
-        entries[usize::from(k)] = entry(k, 0, 0, u16::from(k), 1);
-    }
-    entries
+    array::from_fn(|k| entry(k as u8, 0, 0, k as u16, 1))
 }
 
 #[test]

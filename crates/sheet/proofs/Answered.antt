@@ -3,7 +3,7 @@ use Rattle.std.proofs.Common.{◌≡◌, ℕ, ◌-◌, ◌*◌, ◌^◌, List, l
 use Rattle.std.proofs.lemmas.List.{length-take-le}
 use Rattle.plan.specs.declared.entry.Entry.{Entry}
 use Rattle.plan.specs.declared.fault.PlanFault.{PlanFault}
-use Rattle.plan.specs.declared.plan.Plan as planned
+use Rattle.plan.specs.Value.{PlanValue}
 use Rattle.plan.specs.Owners.{owner_in}
 use Rattle.plan.specs.Told as plan
 use Rattle.reservation.specs.declared.reservation.Reservation.{Reservation}
@@ -55,32 +55,32 @@ module _ (s : List ℕ) (c : Contents) (w : SheetRead s c) where
   plan_refused f t =
       (held, subst (λ es. plan.Told {U = Unit {0}} c.heading.base c.heading.depth es (Err f)) (front c.heading.entries c.entries) t)
 
-  module _ (p : planned.Plan) (b : p.base.ticks ≡ c.heading.base) (d : p.depth ≡ c.heading.depth) (es : vec_items p.entries ≡ given) (sound : plan.Sound c.heading.base c.heading.depth given) where
-    entries_held : vec_items p.entries ≡ take c.heading.entries c.entries
+  module _ (p : PlanValue) (b : p.base ≡ c.heading.base) (d : p.depth ≡ c.heading.depth) (es : p.entries ≡ given) (sound : plan.Sound c.heading.base c.heading.depth given) where
+    entries_held : p.entries ≡ take c.heading.entries c.entries
     entries_held = es ∙ front c.heading.entries c.entries
 
     sound_held : plan.Sound c.heading.base c.heading.depth (take c.heading.entries c.entries)
     sound_held = subst (plan.Sound c.heading.base c.heading.depth) (front c.heading.entries c.entries) sound
 
     -- an answer of the check on the plan that was filled is one on the plan that the sheet holds
-    check_held : (r : Result (Unit {0}) CheckFault) → check.Told (owner_in p.base.ticks (vec_items p.entries)) (p.base.ticks * 2 ^ p.depth) asked r → check.Told (owner_in c.heading.base (take c.heading.entries c.entries)) (c.heading.base * 2 ^ c.heading.depth) (take c.heading.reserved c.heading.list) r
+    check_held : (r : Result (Unit {0}) CheckFault) → check.Told (owner_in p.base p.entries) (p.base * 2 ^ p.depth) asked r → check.Told (owner_in c.heading.base (take c.heading.entries c.entries)) (c.heading.base * 2 ^ c.heading.depth) (take c.heading.reserved c.heading.list) r
     check_held r t =
         subst (λ (x : ℕ × ℕ × List Entry × List Reservation). check.Told (owner_in x.0 x.2) (x.0 * 2 ^ x.1) x.3 r) same t
       where
-        same : ◌≡◌ {A = ℕ × ℕ × List Entry × List Reservation} (p.base.ticks, p.depth, vec_items p.entries, asked) (c.heading.base, c.heading.depth, take c.heading.entries c.entries, take c.heading.reserved c.heading.list)
+        same : ◌≡◌ {A = ℕ × ℕ × List Entry × List Reservation} (p.base, p.depth, p.entries, asked) (c.heading.base, c.heading.depth, take c.heading.entries c.entries, take c.heading.reserved c.heading.list)
         same = let f = front c.heading.reserved c.heading.list in let e = entries_held in cc (b, d, e, f)
 
-    pub check_refused : (f : CheckFault) → check.Told (owner_in p.base.ticks (vec_items p.entries)) (p.base.ticks * 2 ^ p.depth) asked (Err f) → Refused s (Check f)
+    pub check_refused : (f : CheckFault) → check.Told (owner_in p.base p.entries) (p.base * 2 ^ p.depth) asked (Err f) → Refused s (Check f)
     check_refused f t = (held, sound_held, check_held (Err f) t)
 
-    sheet_held : IsSheet s p.base.ticks p.depth (vec_items p.entries) (take c.heading.reserved c.heading.list)
+    sheet_held : IsSheet s p.base p.depth p.entries (take c.heading.reserved c.heading.list)
     sheet_held =
         subst (λ (x : ℕ × ℕ × List Entry). IsSheet s x.0 x.1 x.2 (take c.heading.reserved c.heading.list)) same w.sheet
       where
-        same : ◌≡◌ {A = ℕ × ℕ × List Entry} (c.heading.base, c.heading.depth, take c.heading.entries c.entries) (p.base.ticks, p.depth, vec_items p.entries)
+        same : ◌≡◌ {A = ℕ × ℕ × List Entry} (c.heading.base, c.heading.depth, take c.heading.entries c.entries) (p.base, p.depth, p.entries)
         same = let e = entries_held in cc (b, d, e)
 
-    pub accepted : check.Told (owner_in p.base.ticks (vec_items p.entries)) (p.base.ticks * 2 ^ p.depth) asked (Ok tt) → Answer s (Ok c.heading.reserved) × Holding s c.heading.reserved p c.heading.list
+    pub accepted : check.Told (owner_in p.base p.entries) (p.base * 2 ^ p.depth) asked (Ok tt) → Answer s (Ok c.heading.reserved) × Holding s c.heading.reserved p c.heading.list
     accepted t =
         let size = w.places in
         let few = w.few in

@@ -1,5 +1,5 @@
 -- What loading leaves in the plan and in the list.
-use Rattle.std.specs.Prelude.{◌≡◌, ℕ, ◌≤◌, List, length, take, Ok, Err, vec_items, Result}
+use Rattle.std.specs.Prelude.{◌≡◌, ℕ, ◌≤◌, List, length, take, Ok, Err, Result}
 use Rattle.plan.specs.declared.plan.Plan.{Plan}
 use Rattle.reservation.specs.declared.reservation.Reservation.{Reservation}
 use Rattle.reservation.specs.Reservations.{at, blank}
@@ -10,7 +10,7 @@ use Rattle.sheet.specs.Format.{IsSheet}
 pub record Holding (s : List ℕ) (n : ℕ) (p : Plan) (list : List Reservation) : Type 0 where
   pub few : n ≤ 16
   pub places : length list ≡ 16
-  pub sheet : IsSheet s p.base.ticks p.depth (vec_items p.entries) (take n list)
+  pub sheet : IsSheet s p.base p.depth p.entries (take n list)
   pub others : (k : ℕ) → n ≤ k → at list k ≡ blank
 
 -- accepted, plan and list are those of the sheet; refused, both are what they were

@@ -1,25 +1,8 @@
 // Sheets to be loaded, written byte by byte.
+use cases::parts::reserve;
 use plan::entry::Entry;
 use reservation::reservation::Reservation;
 use std::alloc::{AllocError, Global};
-
-pub fn entry(activity: u8, depth: u8, path: u16, offset: u16, length: u16) -> Entry {
-    Entry {
-        activity,
-        depth,
-        path,
-        offset,
-        length,
-    }
-}
-
-pub fn reserve(activity: u8, ticks: u16, period: u16) -> Reservation {
-    Reservation {
-        activity,
-        ticks,
-        period,
-    }
-}
 
 fn add_two(bytes: &mut Vec<u8>, number: u16) -> Result<(), AllocError> {
     let [low, high] = number.to_le_bytes();
@@ -132,20 +115,9 @@ fn add_blocks(bytes: &mut Vec<u8>, entries: &[Entry]) -> Result<(), AllocError> 
     Ok(())
 }
 
-// So many entries of depth 5 and length 16, of which no two clash.
-pub fn deep_entries(heap: Global, count: u16) -> Result<Vec<Entry>, AllocError> {
-    let mut entries = Vec::new(heap);
-    for i in 0..count {
-        entries.push(entry((i % 16) as u8, 5, i % 32, i / 32 % 4 * 16, 16))?;
-    }
-    Ok(entries)
-}
-
-// A reservation for every activity, which the 120 entries above serve.
+// A reservation for every activity, which 120 deep entries serve.
 pub fn all_reservations(heap: Global) -> Result<Vec<Reservation>, AllocError> {
-    let mut list = Vec::new(heap);
-    for activity in 0..16u8 {
-        list.push(reserve(activity, 16, 2048))?;
-    }
-    Ok(list)
+    (0..16u8)
+        .map(|activity| reserve(activity, 16, 2048))
+        .collect(heap)
 }

@@ -1,5 +1,6 @@
 // Each refusal, on a plan and a list that were filled before, and the edges of what is taken.
-use crate::draft::{all_reservations, changed, deep_entries, entry, reserve, sheet};
+use crate::draft::{all_reservations, changed, sheet};
+use cases::parts::{deep_entries, entry, is_example, reserve};
 use cases::{EXAMPLE_ENTRIES, example_plan};
 use plan::entry::Entry;
 use plan::fault::PlanFault;
@@ -14,10 +15,6 @@ use std::test::Fail;
 // A list that is full of something else.
 fn full_list() -> [Reservation; 16] {
     [reserve(9, 1, 8); 16]
-}
-
-fn is_example(plan: &Plan) -> bool {
-    plan.base().ticks == 10 && plan.depth() == 2 && plan.entries() == EXAMPLE_ENTRIES.as_slice()
 }
 
 // The sheet of the example plan with one reservation.
@@ -78,13 +75,9 @@ fn taken(
     check(load(bytes.as_slice(), &mut plan, &mut list) == Ok(reservations.len()))?;
     check(plan.base().ticks == 64 && plan.depth() == 5)?;
     check(plan.entries() == entries)?;
-    for (i, reservation) in list.iter().enumerate() {
-        if i < reservations.len() {
-            check(*reservation == reservations[i])?;
-        } else {
-            check(*reservation == reserve(0, 0, 0))?;
-        }
-    }
+    let (front, rest) = list.split_at(reservations.len().min(16));
+    check(front == reservations)?;
+    check(rest.iter().all(|place| *place == Reservation::default()))?;
     Ok(())
 }
 

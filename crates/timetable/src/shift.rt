@@ -7,12 +7,24 @@ ghost use Rattle.std.proofs.lemmas.Int.{ints};
 
 use crate::table::Timetable;
 use clock::Cycle;
+use std::marker::Model;
 
 /// The timetable `below`, moved `by` ticks later; a negative `by` moves it earlier.
 #[derive(Clone, Copy, PartialEq, Eq, Debug, Drop)]
 pub struct Shift<T> {
     below: T,
     by: i32,
+}
+
+impl<T> Model for Shift<T> {
+    ghost use Rattle.std.specs.Prelude.{ℤ};
+    ghost use Rattle.timetable.specs.Moved.{Moved};
+
+    ghost Value = { Moved T };
+
+    ghost view = { λ s. record { below = s.below; by = s.by } };
+
+    ghost inverse = { λ m. record { below = m.below; by = m.by } };
 }
 
 impl<T> Shift<T> {

@@ -18,7 +18,7 @@ pub trait Timetable {
 
     /// The cycle.
     fn cycle(&self) -> Cycle
-        ensures { result.len ≡ cycle self.now };
+        ensures { result.ticks ≡ cycle self.now };
 
     ghost least: { (x : Self) → 1 ≤ cycle x };
 

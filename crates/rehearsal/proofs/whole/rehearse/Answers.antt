@@ -1,5 +1,5 @@
 use Rattle.std.proofs.lemmas.Result.{err_from_is_err_and}
-use Rattle.std.proofs.Common.{Err, ap, ◌∙◌, rules, take, vec_items, sym, refl, subst}
+use Rattle.std.proofs.Common.{Err, ap, ◌∙◌, rules, take, sym, refl, subst}
 use Rattle.sheet.specs.declared.fault.SheetFault.{SheetFault}
 use Rattle.sheet.specs.Told.{Holds, Refused}
 use Rattle.rehearsal.proofs.OnlyRows.{rows_once}
@@ -11,9 +11,9 @@ returns-in-Ok g c =
     let e = c.in-Ok.ensures in
     let plan = c.load.new.plan in
     let holds : Holds c.args.sheet.now = record {
-      base = plan.base.ticks;
+      base = plan.base;
       depth = plan.depth;
-      entries = vec_items plan.entries;
+      entries = plan.entries;
       reservations = take c.in-Ok.field-0 c.load.new.list;
       sheet = e.after.sheet;
     } in

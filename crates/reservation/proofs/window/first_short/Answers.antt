@@ -16,9 +16,6 @@ loop-start-init g c =
     let e = c.count_first-found.ensures in
     (omega arith, omega arith, below_none _)
 
-pub overflow_sub-found : goal.overflow_sub-found
-overflow_sub-found g c = let m = moved g c in omega arith
-
 pub loop-start-preserved : goal.loop-start-preserved
 loop-start-preserved g c =
     let m = moved g c in

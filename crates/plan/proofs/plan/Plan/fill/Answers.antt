@@ -1,16 +1,13 @@
 use Rattle.std.proofs.Common.{Err, sym, subst}
 use Rattle.std.proofs.lemmas.Result.{err_from_is_err_and}
-use Rattle.clock.specs.declared.BasePeriod.{BasePeriod}
-use Rattle.plan.specs.Told.{Told}
-use Rattle.plan.proofs.Answered.{told_as, refused}
+use Rattle.clock.specs.declared.Span.{Span}
+use Rattle.plan.specs.declared.depth.Depth.{Depth}
+use Rattle.plan.specs.Filled.{Shared}
+use Rattle.plan.proofs.Answered.{shared_told}
 use Rattle.plan.proofs.plan.Plan.fill.Goals as goal
 
-pub returns-in_err-period : goal.returns-in_err-period
-returns-in_err-period c =
-    let b = c.args.base in
-    let d = c.args.depth in
-    let es = c.args.entries.now in
+pub returns-in_err-base-clause-shared : goal.returns-in_err-base-clause-shared
+returns-in_err-base-clause-shared c =
     let p = err_from_is_err_and c.from_residual.result c.from_residual.ensures.1 in
-    let t = told_as BasePeriod (Unit {0}) b d es c.in_err-period.field-0.0 c.in_err-period.ensures.told in
-    let all = refused b d es c.args.self.now c.from_residual.result p.0 p.1 (subst (λ e. Told {U = Unit {0}} b d es (Err e)) (sym p.2) t) in
-    record { told = all.told; only = all.only; after = all.after; shared = all.shared }
+    let shared = shared_told (Span 64 × Depth) (Unit {0}) c.args.base c.args.depth c.args.entries.now c.in_err-base.field-0.0 c.in_err-base.ensures.told in
+    subst (Shared {U = Unit {0}} c.args.base c.args.entries.now) (sym p.1) (subst (λ e. Shared {U = Unit {0}} c.args.base c.args.entries.now (Err e)) (sym p.2) shared)

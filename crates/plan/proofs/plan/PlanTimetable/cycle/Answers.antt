@@ -6,6 +6,6 @@ pub invariant_of-result : goal.invariant_of-result
 invariant_of-result c =
     let p = c.args.self.now in
     let e = c.cycle_ticks.ensures in
-    let low = cycle_least p.base.ticks p.depth p.base.range.0 in
-    let high = cycle_most p.base.ticks p.depth p.base.range.1 p.shallow in
+    let low = cycle_least p.base p.depth p.sound.shaped.0 in
+    let high = cycle_most p.base p.depth p.sound.shaped.1 p.sound.shaped.2 in
     record { range = (omega arith, omega arith) }
