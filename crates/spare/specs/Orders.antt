@@ -1,5 +1,5 @@
 -- Words for lists of activities in the order in which they are asked.
-use Rattle.std.specs.Prelude.{◌≡◌, ℕ, zero, suc, Bool, cond, List, [], ◌∷◌, ◌++◌, Some, None, Option, ◌==◌}
+use Rattle.std.specs.Prelude.{◌≡◌, ℕ, zero, suc, ◌<◌, Bool, cond, List, [], ◌∷◌, ◌++◌, length, Some, None, Option, ◌==◌, slice_index}
 
 -- the first ready one, if there is any
 abbrev pub first_ready : (ℕ → Bool) → List ℕ → Option ℕ
@@ -33,3 +33,14 @@ times a (x ∷ xs) = cond (x == a) (suc (times a xs)) (times a xs)
 -- the activities in the order of their numbers
 abbrev pub in_order : List ℕ
 in_order = 0 ∷ 1 ∷ 2 ∷ 3 ∷ 4 ∷ 5 ∷ 6 ∷ 7 ∷ 8 ∷ 9 ∷ 10 ∷ 11 ∷ 12 ∷ 13 ∷ 14 ∷ 15 ∷ []
+
+-- every one of the sixteen activities stands in the order once, and nobody else does
+pub record EachOnce (order : List ℕ) : Type 0 where
+  pub long : length order ≡ 16
+  pub known : (k : ℕ) → k < 16 → slice_index order k < 16
+  pub once : (a : ℕ) → a < 16 → times a order ≡ 1
+
+-- a queue, as its callers see it
+pub record Turns : Type 0 where
+  pub order : List ℕ
+  pub each_once : EachOnce order

@@ -1,6 +1,6 @@
 // The queue: the first ready one goes to the end.
-ghost use Rattle.std.specs.Prelude.{◌≡◌, ℕ, ◌<◌, ◌≤◌, length, slice_index};
-ghost use Rattle.spare.specs.Orders.{QueueStep, place_of, times, in_order};
+ghost use Rattle.std.specs.Prelude.{◌≡◌, ℕ, ◌<◌};
+ghost use Rattle.spare.specs.Orders.{EachOnce, QueueStep, place_of, times, in_order};
 ghost use Rattle.spare.specs.Search.{moved};
 ghost use Rattle.std.proofs.Common.{arith};
 ghost use Rattle.spare.specs.OrdersLemmas.{has_place};
@@ -8,14 +8,21 @@ ghost use Rattle.spare.specs.OrdersLemmas.{has_place};
 use crate::ready::ReadySet;
 use crate::rule::SpareRule;
 use crate::search::first_ready;
+use std::marker::Model;
 
 /// A rule that names the first ready activity of its order and moves it to the end.
 #[derive(Drop)]
 pub struct Queue {
     order: [u8; 16],
-    ghost long: { length order ≡ 16 },
-    ghost known: { ((k : ℕ) → k < 16 → slice_index order k < 16) },
-    ghost once: { ((a : ℕ) → a < 16 → times a order ≡ 1) },
+    ghost each_once: { EachOnce order },
+}
+
+impl Model for Queue {
+    ghost use Rattle.spare.specs.Orders.{Turns};
+
+    ghost Value = { Turns };
+
+    ghost view = { λ q. record { order = q.order; each_once = q.each_once } };
 }
 
 // The order with what stands at `place` moved to the end.
@@ -55,7 +62,7 @@ impl SpareRule for Queue {
 
     ghost step = { λ q ready r q'. QueueStep q.order ready r q'.order };
 
-    ghost bounded = { λ x a h. omega (arith, has_place a x.order (omega (arith, x.once a h)), x.long) };
+    ghost bounded = { λ x a h. omega (arith, has_place a x.order (omega (arith, x.each_once.once a h)), x.each_once.long) };
 
     fn choose(&mut self, ready: ReadySet) -> Option<u8> {
         let order = self.order;
