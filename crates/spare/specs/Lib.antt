@@ -1,6 +1,7 @@
 pub mod Sets
 pub mod Chosen
 pub mod Orders
+pub mod Holding
 pub mod Holds
 pub mod Wheels
 pub mod Search
