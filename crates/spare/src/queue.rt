@@ -5,7 +5,7 @@ ghost use Rattle.spare.specs.Search.{moved};
 ghost use Rattle.std.proofs.Common.{arith};
 ghost use Rattle.spare.specs.OrdersLemmas.{has_place};
 
-use crate::ready::ReadySet;
+use crate::ready::{IN_ORDER, ReadySet};
 use crate::rule::SpareRule;
 use crate::search::first_ready;
 use std::marker::Model;
@@ -41,9 +41,7 @@ impl Queue {
     pub fn new() -> Queue
         ensures { result.order ≡ in_order }
     {
-        Queue {
-            order: [0, 1, 2, 3, 4, 5, 6, 7, 8, 9, 10, 11, 12, 13, 14, 15],
-        }
+        Queue { order: IN_ORDER }
     }
 
     /// The order: every activity once, the one that is asked first in front.
@@ -66,9 +64,7 @@ impl SpareRule for Queue {
 
     fn choose(&mut self, ready: ReadySet) -> Option<u8> {
         let order = self.order;
-        let Some(first) = first_ready(&order, 0, 16, ready) else {
-            return None;
-        };
+        let first = first_ready(&order, 0, 16, ready)?;
         self.order = to_end(order, first);
         Some(order[first])
     }

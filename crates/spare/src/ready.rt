@@ -5,6 +5,9 @@ ghost use Rattle.spare.specs.Sets.{is_ready};
 /// How many activities there are: 0 to 15.
 pub const ACTIVITIES: u8 = 16;
 
+/// The activities in the order of their numbers.
+pub(crate) const IN_ORDER: [u8; 16] = [0, 1, 2, 3, 4, 5, 6, 7, 8, 9, 10, 11, 12, 13, 14, 15];
+
 /// A set of activities. No number above 15 is ever in one.
 #[derive(Clone, Copy, Debug)]
 pub struct ReadySet {

@@ -4,6 +4,7 @@ ghost use Rattle.std.specs.Prelude.{◌≡◌, ℕ, ◌<◌, length, IfOk};
 ghost use Rattle.spare.specs.Orders.{in_order};
 ghost use Rattle.spare.specs.Wheels.{Table};
 
+use crate::ready::IN_ORDER;
 use std::alloc::{AllocError, Global};
 use std::marker::Model;
 
@@ -30,8 +31,7 @@ impl Wheel {
     pub fn new(heap: Global) -> Result<Wheel, AllocError>
         ensures { IfOk result (λ w. (w.places ≡ in_order) × (w.mark ≡ 15)) }
     {
-        let order = [0, 1, 2, 3, 4, 5, 6, 7, 8, 9, 10, 11, 12, 13, 14, 15];
-        let places = Vec::from_slice(heap, &order)?;
+        let places = Vec::from_slice(heap, &IN_ORDER)?;
         Ok(Wheel { places, mark: 15 })
     }
 

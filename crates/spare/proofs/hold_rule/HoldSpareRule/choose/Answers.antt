@@ -5,7 +5,7 @@ use Rattle.spare.proofs.hold_rule.HoldSpareRule.choose.Goals as goal
 pub returns-clause-chosen : goal.returns-clause-chosen
 returns-clause-chosen g c =
     let h = c.self.inside in
-    let e = c.in-Some-choose.ensures.chosen in
+    let e = c.in_ok-activity.ensures.chosen in
     rw (← c.self.view_is) (record {
       known = e.known;
       member = e.member;
