@@ -2,10 +2,10 @@
 use Rattle.std.specs.Prelude.{◌≡◌, ℕ, zero, suc, ◌+◌, ◌-◌, ◌<◌, ◌≤◌, Bool, true, false, cond, List, [], ◌∷◌, ◌++◌, length, take, drop, Some, None, ◌==◌, ◌≢◌, nat_eq, slice_index, slice_index_or, slice_range, refl}
 use borrow.Rule.Slice.PartMut.{put_mid, post_of}
 use Rattle.std.proofs.Common.{⊎_elim, sym, ap, subst, ◌∙◌, arith}
-use Rattle.std.proofs.lemmas.List.{take_all, drop_all, length-drop, append-nil, get_or_append_left, get_or_push, length-append}
+use Rattle.std.proofs.lemmas.List.{take_all, drop_all, length-drop, append-nil, get_or_append_left, get_or-append_right, get_or_push, length-append}
 use Rattle.std.proofs.lemmas.Bool.{eqb-true, eq-eqb, cases_order, cases_lt, both_ways}
 use Rattle.spare.specs.Orders.{first_ready, sent_back, passed_over, place_of, times}
-use Rattle.spare.specs.Search.{moved}
+use Rattle.spare.specs.Search.{moved, NoneIn, FirstAt}
 
 -- turning the rest of the array by one
 pub rotated : (xs : List ℕ) (i : ℕ) (ys : List ℕ) → length xs ≡ 16 → i < 16 → ys ≡ drop 1 (slice_range xs i 16) ++ take 1 (slice_range xs i 16) → put_mid i (16 - i) xs ys ≡ moved xs i
@@ -127,8 +127,32 @@ comes_nearer ready xs i j b h before q r other =
     let after = stands_after ready xs i b before q r other in
     nearer xs j b (omega arith) q
 
-pub none_ready : (ready : ℕ → Bool) (xs : List ℕ) → ((k : ℕ) → k < length xs → ready (slice_index xs k) ≡ false) → (a : ℕ) → place_of a xs < length xs → ready a ≡ false
+pub none_ready : (ready : ℕ → Bool) (xs : List ℕ) → NoneIn ready xs → (a : ℕ) → place_of a xs < length xs → ready a ≡ false
 none_ready ready xs before a q = sym (ap ready (at_place a xs q)) ∙ before (place_of a xs) q
+
+-- a search through two lists, one after the other
+module _ (ready : ℕ → Bool) (xs ys : List ℕ) where
+  pub first_left : (i : ℕ) → FirstAt ready xs i → FirstAt ready (xs ++ ys) i
+  first_left i f = record {
+    within = omega (arith, f.within, length-append xs ys);
+    here = ap ready (get_or_append_left xs ys 0 i f.within) ∙ f.here;
+    before = λ k lt. ap ready (get_or_append_left xs ys 0 k (omega (arith, f.within))) ∙ f.before k lt;
+  }
+
+  pub none_both : NoneIn ready xs → NoneIn ready ys → NoneIn ready (xs ++ ys)
+  none_both h g k lt =
+      ⊎_elim (λ below. ap ready (get_or_append_left xs ys 0 k below) ∙ h k below)
+      (λ past. ap ready (get_or-append_right xs ys (length xs) k 0 refl past) ∙ g (k - length xs) (omega (arith, length-append xs ys)))
+      (cases_lt k (length xs))
+
+  pub first_right : (i : ℕ) → NoneIn ready xs → FirstAt ready ys i → FirstAt ready (xs ++ ys) (length xs + i)
+  first_right i h f = record {
+    within = omega (arith, f.within, length-append xs ys);
+    here = ap ready (get_or-append_right xs ys (length xs) (length xs + i) 0 refl (omega arith)) ∙ ap (λ k. ready (slice_index ys k)) (omega arith) ∙ f.here;
+    before = λ k lt. ⊎_elim (λ below. ap ready (get_or_append_left xs ys 0 k below) ∙ h k below)
+        (λ past. ap ready (get_or-append_right xs ys (length xs) k 0 refl past) ∙ f.before (k - length xs) (omega arith))
+        (cases_lt k (length xs));
+  }
 
 -- a search that ends at i has found the first ready one
 pub record Found (ready : ℕ → Bool) (xs : List ℕ) (i : ℕ) : Type 0 where
@@ -136,13 +160,13 @@ pub record Found (ready : ℕ → Bool) (xs : List ℕ) (i : ℕ) : Type 0 where
   pub sent : sent_back ready xs ≡ moved xs i
   pub passed : passed_over ready xs ≡ i
 
-pub found_at : (ready : ℕ → Bool) (xs : List ℕ) (i : ℕ) → i < length xs → ready (slice_index xs i) ≡ true → ((k : ℕ) → k < i → ready (slice_index xs k) ≡ false) → Found ready xs i
-found_at ready [] i l h before = absurd (omega arith)
-found_at ready (x ∷ xs) zero l h before =
-    record { first = ap (λ t. cond t (Some x) (first_ready ready xs)) h; sent = ap (λ t. cond t (xs ++ x ∷ []) (x ∷ sent_back ready xs)) h; passed = ap (λ t. cond t zero (suc (passed_over ready xs))) h }
-found_at ready (x ∷ xs) (suc i) l h before =
-    let b : ready x ≡ false = before 0 (omega arith) in
-    let rest = found_at ready xs i (omega arith) h (λ k lt. before (suc k) (omega arith)) in
+pub found_at : (ready : ℕ → Bool) (xs : List ℕ) (i : ℕ) → FirstAt ready xs i → Found ready xs i
+found_at ready [] i f = absurd (omega (arith, f.within))
+found_at ready (x ∷ xs) zero f =
+    record { first = ap (λ t. cond t (Some x) (first_ready ready xs)) f.here; sent = ap (λ t. cond t (xs ++ x ∷ []) (x ∷ sent_back ready xs)) f.here; passed = ap (λ t. cond t zero (suc (passed_over ready xs))) f.here }
+found_at ready (x ∷ xs) (suc i) f =
+    let b : ready x ≡ false = f.before 0 (omega arith) in
+    let rest = found_at ready xs i (record { within = omega (arith, f.within); here = f.here; before = λ k lt. f.before (suc k) (omega arith) }) in
     record {
       first = ap (λ t. cond t (Some x) (first_ready ready xs)) b ∙ rest.first;
       sent = ap (λ t. cond t (xs ++ x ∷ []) (x ∷ sent_back ready xs)) b ∙ ap (λ ys. x ∷ ys) rest.sent;
@@ -150,7 +174,7 @@ found_at ready (x ∷ xs) (suc i) l h before =
     }
 
 -- and one that ends nowhere has found nobody
-pub found_none : (ready : ℕ → Bool) (xs : List ℕ) → ((k : ℕ) → k < length xs → ready (slice_index xs k) ≡ false) → (first_ready ready xs ≡ None) × (sent_back ready xs ≡ xs)
+pub found_none : (ready : ℕ → Bool) (xs : List ℕ) → NoneIn ready xs → (first_ready ready xs ≡ None) × (sent_back ready xs ≡ xs)
 found_none ready [] before = (refl, refl)
 found_none ready (x ∷ xs) before =
     let b : ready x ≡ false = before 0 (omega arith) in

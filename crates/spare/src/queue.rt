@@ -1,7 +1,6 @@
 // The queue: the first ready one goes to the end.
 ghost use Rattle.std.specs.Prelude.{◌≡◌, ℕ, ◌<◌};
 ghost use Rattle.spare.specs.Orders.{EachOnce, QueueStep, place_of, times, in_order};
-ghost use Rattle.spare.specs.Search.{moved};
 ghost use Rattle.std.proofs.Common.{arith};
 ghost use Rattle.spare.specs.OrdersLemmas.{has_place};
 
@@ -23,17 +22,6 @@ impl Model for Queue {
     ghost Value = { Turns };
 
     ghost view = { λ q. record { order = q.order; each_once = q.each_once } };
-}
-
-// The order with what stands at `place` moved to the end.
-fn to_end(order: [u8; 16], place: usize) -> [u8; 16]
-    requires { place < 16 }
-    ensures { result ≡ moved order place }
-{
-    let mut next = order;
-    let rest = &mut next[place..16];
-    rest.rotate_left(1);
-    next
 }
 
 impl Queue {
@@ -63,9 +51,9 @@ impl SpareRule for Queue {
     ghost bounded = { λ x a h. omega (arith, has_place a x.order (omega (arith, x.each_once.once a h)), x.each_once.long) };
 
     fn choose(&mut self, ready: ReadySet) -> Option<u8> {
-        let order = self.order;
-        let first = first_ready(&order, 0, 16, ready)?;
-        self.order = to_end(order, first);
-        Some(order[first])
+        let first = first_ready(&self.order, ready)?;
+        let named = self.order[first];
+        self.order[first..].rotate_left(1);
+        Some(named)
     }
 }

@@ -15,14 +15,12 @@ use crate::wheel::Wheel;
 impl Wheel {
     // The first place after the mark, going round, at which a ready activity stands.
     fn next_ready(&self, ready: ReadySet) -> Option<usize>
-        ensures { MatchOption result (NoneIn (is_ready ready) (after_mark self.now.places self.now.mark) 0 (length self.now.places)) (NextAt (is_ready ready) self.now.places self.now.mark) }
+        ensures { MatchOption result (NoneIn (is_ready ready) (after_mark self.now.places self.now.mark)) (NextAt (is_ready ready) self.now.places self.now.mark) }
     {
-        let places = self.places.as_slice();
-        let after = self.mark + 1;
-        if let Some(place) = first_ready(places, after, places.len(), ready) {
-            return Some(place);
-        }
-        first_ready(places, 0, after, ready)
+        let (front, back) = self.places.split_at(self.mark + 1);
+        first_ready(back, ready)
+            .map(|place| front.len() + place)
+            .or_else(|| first_ready(front, ready))
     }
 }
 
@@ -36,9 +34,7 @@ impl SpareRule for Wheel {
     ghost bounded = { λ x a h. omega (arith, comes_round x.places a x.mark (omega (arith, x.marked)) (x.table.all a h)) };
 
     fn choose(&mut self, ready: ReadySet) -> Option<u8> {
-        let Some(place) = self.next_ready(ready) else {
-            return None;
-        };
+        let place = self.next_ready(ready)?;
         self.mark = place;
         Some(self.places[place])
     }
