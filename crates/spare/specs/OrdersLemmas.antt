@@ -1,9 +1,10 @@
 -- Lists of activities: who stands first, and what moving one to the end does to the places of the others.
-use Rattle.std.specs.Prelude.{◌≡◌, ℕ, zero, suc, ◌+◌, ◌-◌, ◌<◌, ◌≤◌, Bool, true, false, cond, List, [], ◌∷◌, ◌++◌, length, take, drop, Some, None, ◌==◌, ◌≢◌, nat_eq, slice_index, slice_index_or, slice_range, refl}
+use Rattle.std.specs.Prelude.{◌≡◌, ℕ, zero, suc, ◌+◌, ◌-◌, ◌<◌, ◌≤◌, Bool, true, false, ◌||◌, cond, Decides, List, [], ◌∷◌, ◌++◌, length, take, drop, Some, None, ◌==◌, ◌≢◌, nat_eq, slice_index, slice_index_or, slice_range, refl}
 use borrow.Rule.Slice.PartMut.{put_mid, post_of}
 use Rattle.std.proofs.Common.{⊎_elim, sym, ap, subst, ◌∙◌, arith}
 use Rattle.std.proofs.lemmas.List.{take_all, drop_all, length-drop, append-nil, get_or_append_left, get_or-append_right, get_or_push, length-append}
 use Rattle.std.proofs.lemmas.Bool.{eqb-true, eq-eqb, cases_order, cases_lt, both_ways}
+use Rattle.std.specs.List.{list_any}
 use Rattle.spare.specs.Orders.{first_ready, sent_back, passed_over, place_of, times}
 use Rattle.spare.specs.Search.{moved, NoneIn, FirstAt}
 
@@ -51,6 +52,15 @@ pub stands_there : (a : ℕ) (xs : List ℕ) (k : ℕ) → k < length xs → sli
 stands_there a [] k h e = absurd (omega arith)
 stands_there a (x ∷ xs) zero h e = let t : nat_eq x a ≡ true = eq-eqb x a e in rw t (omega arith)
 stands_there a (x ∷ xs) (suc k) h e = still_there (x == a) (times a xs) (stands_there a xs k (omega arith) e)
+
+-- a search for one tells whether it stands there
+told_first : (t u : Bool) (n : ℕ) → Decides u (1 ≤ n) → Decides (t || u) (1 ≤ cond t (suc n) n)
+told_first true u n h = (λ _. omega arith, λ _. refl)
+told_first false u n h = h
+
+pub times_any : (a : ℕ) (xs : List ℕ) → Decides (list_any (λ x. x == a) xs) (1 ≤ times a xs)
+times_any a [] = (λ e. absurd (both_ways false refl e), λ h. absurd (omega arith))
+times_any a (x ∷ xs) = told_first (x == a) (list_any (λ y. y == a) xs) (times a xs) (times_any a xs)
 
 -- how often one stands in two lists together
 one_more : (t : Bool) (m n : ℕ) → cond t (suc (m + n)) (m + n) ≡ cond t (suc m) m + n

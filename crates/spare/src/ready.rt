@@ -46,12 +46,7 @@ impl ReadySet {
         ensures others { (b : ℕ) → (b ≢ activity) → is_ready result b ≡ is_ready self b }
         ensures unknown { 16 ≤ activity → result ≡ self }
     {
-        if activity >= ACTIVITIES {
-            return self;
-        }
-        let mut members = self.members;
-        members[activity as usize] = true;
-        ReadySet { members }
+        self.having(activity, true)
     }
 
     /// The set without this activity; for a number above 15 the set as it is.
@@ -60,11 +55,19 @@ impl ReadySet {
         ensures others { (b : ℕ) → (b ≢ activity) → is_ready result b ≡ is_ready self b }
         ensures unknown { 16 ≤ activity → result ≡ self }
     {
-        if activity >= ACTIVITIES {
-            return self;
-        }
+        self.having(activity, false)
+    }
+
+    // The set in which this activity is, or is not, and all else is as it was.
+    fn having(self, activity: u8, member: bool) -> ReadySet
+        ensures member { activity < 16 → is_ready result activity ≡ member }
+        ensures others { (b : ℕ) → (b ≢ activity) → is_ready result b ≡ is_ready self b }
+        ensures unknown { 16 ≤ activity → result ≡ self }
+    {
         let mut members = self.members;
-        members[activity as usize] = false;
+        if activity < ACTIVITIES {
+            members[activity as usize] = member;
+        }
         ReadySet { members }
     }
 
@@ -72,11 +75,6 @@ impl ReadySet {
     pub fn is_empty(self) -> bool
         ensures { Decides result ((a : ℕ) → is_ready self a ≡ false) }
     {
-        for activity in 0..ACTIVITIES {
-            if self.has(activity) {
-                return false;
-            }
-        }
-        true
+        !self.members.contains(&true)
     }
 }

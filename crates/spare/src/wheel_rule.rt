@@ -31,7 +31,7 @@ impl SpareRule for Wheel {
 
     ghost step = { λ w ready r w'. WheelStep w.places w.mark ready r w'.places w'.mark };
 
-    ghost bounded = { λ x a h. omega (arith, comes_round x.places a x.mark (omega (arith, x.marked)) (x.table.all a h)) };
+    ghost bounded = { λ x a h. omega (arith, comes_round x.places a x.mark x.marked (x.table.all a h)) };
 
     fn choose(&mut self, ready: ReadySet) -> Option<u8> {
         let place = self.next_ready(ready)?;
