@@ -44,15 +44,6 @@ pub has_place : (a : ℕ) (xs : List ℕ) → 1 ≤ times a xs → place_of a xs
 has_place a [] h = absurd (omega arith)
 has_place a (x ∷ xs) h = placed a x xs (x == a) h (has_place a xs)
 
-still_there : (t : Bool) (n : ℕ) → 1 ≤ n → 1 ≤ cond t (suc n) n
-still_there true n h = omega arith
-still_there false n h = h
-
-pub stands_there : (a : ℕ) (xs : List ℕ) (k : ℕ) → k < length xs → slice_index xs k ≡ a → 1 ≤ times a xs
-stands_there a [] k h e = absurd (omega arith)
-stands_there a (x ∷ xs) zero h e = let t : nat_eq x a ≡ true = eq-eqb x a e in rw t (omega arith)
-stands_there a (x ∷ xs) (suc k) h e = still_there (x == a) (times a xs) (stands_there a xs k (omega arith) e)
-
 -- a search for one tells whether it stands there
 told_first : (t u : Bool) (n : ℕ) → Decides u (1 ≤ n) → Decides (t || u) (1 ≤ cond t (suc n) n)
 told_first true u n h = (λ _. omega arith, λ _. refl)
