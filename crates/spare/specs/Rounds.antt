@@ -130,7 +130,7 @@ module _ (s : ReadySet) (xs : List ℕ) (m : ℕ) (l : m < length xs) (all : (a 
         let w = f.within in
         let later = stands_after (is_ready s) (after_mark xs m) (passed_to (length xs) m i) b f.first.before q r (λ e. other (e ∙ at)) in
         let here = round_later xs m i (place_of b (after_mark xs m)) l f.within (omega arith) later ∙ at_place b (after_mark xs m) q in
-        omega (arith, place_le b (after_mark xs i) (place_of b (after_mark xs m) - passed_to (length xs) m i - 1) (omega (arith, round_length xs i f.within)) here)
+        omega (arith, place_le b (after_mark xs i) (place_of b (after_mark xs m) - passed_to (length xs) m i - 1) here)
 
     pub names : (p : ℕ) → Names (slice_index xs i) (is_ready s) (λ a. place_of a (after_mark xs m)) p (λ a. place_of a (after_mark xs i)) p
     names p =
