@@ -38,7 +38,7 @@ pub record EachOnce (order : List ℕ) : Type 0 where
   pub known : (k : ℕ) → k < 16 → slice_index order k < 16
   pub once : (a : ℕ) → a < 16 → times a order ≡ 1
 
--- a queue, as its callers see it
+-- a queue, as its callers see it, with the fact that makes it one
 pub record Turns : Type 0 where
   pub order : List ℕ
   pub each_once : EachOnce order

@@ -40,10 +40,7 @@ fn has_all(places: &[u8]) -> bool
 fn is_table(places: &[u8]) -> bool
     ensures { Decides result (Table places.now) }
 {
-    FEWEST_PLACES <= places.len()
-        && places.len() <= MOST_PLACES
-        && are_known(places)
-        && has_all(places)
+    (FEWEST_PLACES..=MOST_PLACES).contains(&places.len()) && are_known(places) && has_all(places)
 }
 
 impl Wheel {
@@ -56,8 +53,7 @@ impl Wheel {
         if !is_table(places) {
             return Err(WheelFault::Places);
         }
-        let copy = Vec::from_slice(*self.places.allocator(), places)?;
-        self.places = copy;
+        self.places = Vec::from_slice(*self.places.allocator(), places)?;
         self.mark = places.len() - 1;
         Ok(())
     }

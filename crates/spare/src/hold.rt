@@ -13,6 +13,7 @@ pub struct Hold<R> {
     ghost few: { left ≤ repeats },
 }
 
+// The value carries the fact `few`, since the law `bounded` of a rule is asked of every value.
 impl<R> Model for Hold<R> {
     ghost use Rattle.spare.specs.Holding.{Holding};
 
@@ -70,12 +71,7 @@ impl<R> Hold<R> {
     pub fn into_below(self) -> R
         ensures { result ≡ self.below }
     {
-        let Hold {
-            below,
-            repeats: _,
-            choice: _,
-            left: _,
-        } = self;
+        let Hold { below, .. } = self;
         below
     }
 }

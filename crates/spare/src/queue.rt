@@ -16,6 +16,7 @@ pub struct Queue {
     ghost each_once: { EachOnce order },
 }
 
+// The value carries the fact `each_once`, since the law `bounded` of a rule is asked of every value.
 impl Model for Queue {
     ghost use Rattle.spare.specs.Orders.{Turns};
 

@@ -9,6 +9,7 @@ pub const ACTIVITIES: u8 = 16;
 pub(crate) const IN_ORDER: [u8; 16] = [0, 1, 2, 3, 4, 5, 6, 7, 8, 9, 10, 11, 12, 13, 14, 15];
 
 /// A set of activities. No number above 15 is ever in one.
+// An array with a place for each, since the set is copied at each call and takes no memory from a heap.
 #[derive(Clone, Copy, Debug)]
 pub struct ReadySet {
     members: [bool; 16],
@@ -65,6 +66,7 @@ impl ReadySet {
         ensures unknown { 16 ≤ activity → result ≡ self }
     {
         let mut members = self.members;
+        // By index: after `get_mut` (tried) a proof has the length of what was written, and not its elements.
         if activity < ACTIVITIES {
             members[activity as usize] = member;
         }

@@ -18,6 +18,7 @@ pub struct Wheel {
     ghost marked: { mark < length places.items },
 }
 
+// The value carries the facts `table` and `marked`, since the law `bounded` of a rule is asked of every value.
 impl Model for Wheel {
     ghost use Rattle.spare.specs.Wheels.{MarkedTable};
 

@@ -2,7 +2,7 @@
 ghost use Rattle.std.specs.Prelude.{◌≡◌, ℕ, ◌<◌, MatchOption};
 ghost use Rattle.spare.specs.Sets.{is_ready};
 ghost use Rattle.spare_tests.specs.Turns.{between, NoneFrom, FirstFrom};
-ghost use Rattle.std.proofs.Common.{rules, arith};
+ghost use Rattle.std.proofs.Common.{arith};
 
 use spare::ready::ReadySet;
 use spare::rule::SpareRule;
@@ -40,11 +40,11 @@ fn first_ready(mut activities: Range<u8>, ready: ReadySet) -> Option<u8>
 }
 
 impl SpareRule for RoundRobin {
-    ghost distance = { λ r a. between r a };
+    ghost distance = { between };
 
     ghost patience = { λ _. 15 };
 
-    ghost bounded = { first_of (Prim.search rules, Prim.grind arith) };
+    ghost bounded = { Prim.grind arith };
 
     fn choose(&mut self, ready: ReadySet) -> Option<u8> {
         let after = self.last + 1;
