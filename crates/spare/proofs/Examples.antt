@@ -2,7 +2,10 @@
 use Rattle.std.proofs.Common.{◌≡◌, ℕ, Bool, true, false, ◌&&◌, ltb, List, [], ◌∷◌, Some, None, MatchBool, Option, refl, ap, ◌∙◌, subst, arith, lit≤}
 use Rattle.spare.specs.declared.hold.Hold.{Hold}
 use Rattle.spare.specs.declared.queue.Queue.{Queue}
-use Rattle.spare.specs.Example.{TwoReady, HeldQueueStep, HeldQueueExample}
+use Rattle.spare.specs.declared.ready.ReadySet.{ReadySet}
+use Rattle.spare.specs.Calls.{Ran}
+use Rattle.spare.specs.Example.{NewHold, TwoReady, HeldQueueStep, HeldQueueExample}
+use Rattle.spare.specs.Sets.{is_ready}
 use Rattle.spare.specs.Holds.{Repeats, Asks, Takes, repeating, choice_ready}
 use Rattle.spare.specs.Orders.{QueueStep, first_ready, sent_back, in_order}
 
@@ -81,3 +84,21 @@ held_queue_example ready t h new a b c d e (h₁, s₁, (h₂, s₂, (h₃, s₃
     let n₄ = four.0 in
     let n₅ = five.0 in
     cc
+
+-- calls say what they say of any weaker account of a call
+pub ran_weaker : {R : Type 0} (P Q : R → (ℕ → Bool) → Option ℕ → R → Type 0) → ((x : R) (ready : ℕ → Bool) (o : Option ℕ) (y : R) → P x ready o y → Q x ready o y) → (x : R) (sets : List ReadySet) (names : List (Option ℕ)) (y : R) → Ran P x sets names y → Ran Q x sets names y
+ran_weaker P Q w x [] [] y h = h
+ran_weaker P Q w x [] (name ∷ names) y h = h
+ran_weaker P Q w x (set ∷ sets) [] y h = h
+ran_weaker P Q w x (set ∷ sets) (name ∷ names) y (z, call, rest) = (z, w x (is_ready set) name z call, ran_weaker P Q w z sets names y rest)
+
+-- five calls with one set name whom the example says
+pub ran_example : (s : ReadySet) → TwoReady (is_ready s) → (h : Hold Queue) → NewHold h → (names : List (Option ℕ)) (y : Hold Queue) → Ran HeldQueueStep h (s ∷ s ∷ s ∷ s ∷ s ∷ []) names y → names ≡ (Some 0 ∷ Some 0 ∷ Some 1 ∷ Some 1 ∷ Some 0 ∷ [])
+ran_example s t h new (a ∷ b ∷ c ∷ d ∷ e ∷ []) y (h₁, s₁, (h₂, s₂, (h₃, s₃, (h₄, s₄, (h₅, s₅, _))))) =
+    held_queue_example (is_ready s) t h new a b c d e (h₁, s₁, (h₂, s₂, (h₃, s₃, (h₄, s₄, (h₅, s₅, tt)))))
+ran_example s t h new [] y r = absurd r
+ran_example s t h new (a ∷ []) y r = absurd r.2
+ran_example s t h new (a ∷ b ∷ []) y r = absurd r.2.2
+ran_example s t h new (a ∷ b ∷ c ∷ []) y r = absurd r.2.2.2
+ran_example s t h new (a ∷ b ∷ c ∷ d ∷ []) y r = absurd r.2.2.2.2
+ran_example s t h new (a ∷ b ∷ c ∷ d ∷ e ∷ f ∷ names) y r = absurd r.2.2.2.2.2

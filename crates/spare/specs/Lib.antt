@@ -2,6 +2,7 @@ pub mod Sets
 pub mod Chosen
 pub mod Asking
 pub mod Orders
+pub mod Holding
 pub mod Holds
 pub mod Wheels
 pub mod Search

@@ -1,11 +1,13 @@
 -- Lists of activities: who stands first, and what moving one to the end does to the places of the others.
-use Rattle.std.specs.Prelude.{◌≡◌, ℕ, zero, suc, ◌+◌, ◌-◌, ◌<◌, ◌≤◌, Bool, true, false, cond, List, [], ◌∷◌, ◌++◌, length, take, drop, Some, None, ◌==◌, ◌≢◌, nat_eq, slice_index, slice_index_or, slice_range, refl}
+use Rattle.std.specs.Prelude.{◌≡◌, ℕ, zero, suc, ◌+◌, ◌-◌, ◌<◌, ◌≤◌, Bool, true, false, ◌||◌, not, cond, Decides, List, [], ◌∷◌, ◌++◌, length, take, drop, Some, None, ◌==◌, ◌≢◌, slice_index, slice_index_or, slice_range, refl}
 use borrow.Rule.Slice.PartMut.{put_mid, post_of}
 use Rattle.std.proofs.Common.{⊎_elim, sym, ap, subst, ◌∙◌, arith}
-use Rattle.std.proofs.lemmas.List.{take_all, drop_all, length-drop, append-nil, get_or_append_left, get_or_push, length-append}
+use Rattle.std.proofs.lemmas.List.{take_all, drop_all, length-drop, append-nil, get_or_append_left, get_or-append_right, get_or_push, length-append}
 use Rattle.std.proofs.lemmas.Bool.{eqb-true, eq-eqb, cases_order, cases_lt, both_ways}
+use Rattle.std.specs.List.{list_any}
+use Rattle.std.proofs.lemmas.List.Sums.{position_or_len_is, fails_before_first, passes_at_first}
 use Rattle.spare.specs.Orders.{first_ready, sent_back, passed_over, place_of, times}
-use Rattle.spare.specs.Search.{moved}
+use Rattle.spare.specs.Search.{moved, NoneIn, FirstAt}
 
 -- turning the rest of the array by one
 pub rotated : (xs : List ℕ) (i : ℕ) (ys : List ℕ) → length xs ≡ 16 → i < 16 → ys ≡ drop 1 (slice_range xs i 16) ++ take 1 (slice_range xs i 16) → put_mid i (16 - i) xs ys ≡ moved xs i
@@ -16,41 +18,31 @@ rotated xs i ys n l e =
     ap (λ p. take i xs ++ (ys ++ p)) post ∙ ap (λ p. take i xs ++ p) (append-nil ys) ∙ ap (λ p. take i xs ++ p) back
 
 -- the one that is sought stands at its place
-found : (b x : ℕ) (xs : List ℕ) (t : Bool) → (x == b) ≡ t → cond t 0 (suc (place_of b xs)) < suc (length xs) → (place_of b xs < length xs → slice_index xs (place_of b xs) ≡ b) → slice_index (x ∷ xs) (cond t 0 (suc (place_of b xs))) ≡ b
-found b x xs true e l rest = eqb-true x b e
-found b x xs false e l rest = rest (omega arith)
-
 pub at_place : (b : ℕ) (xs : List ℕ) → place_of b xs < length xs → slice_index xs (place_of b xs) ≡ b
-at_place b [] h = absurd (omega arith)
-at_place b (x ∷ xs) h = found b x xs (x == b) refl h (at_place b xs)
+at_place b xs h = eqb-true _ b (passes_at_first (λ x. x == b) xs 0 h)
 
 -- and no later than any place where it stands
-sooner : (b x k : ℕ) (xs : List ℕ) (t : Bool) → place_of b xs ≤ k → cond t 0 (suc (place_of b xs)) ≤ suc k
-sooner b x k xs true h = omega arith
-sooner b x k xs false h = omega arith
-
-pub place_le : (b : ℕ) (xs : List ℕ) (k : ℕ) → k < length xs → slice_index xs k ≡ b → place_of b xs ≤ k
-place_le b [] k h e = absurd (omega arith)
-place_le b (x ∷ xs) zero h e = let t : nat_eq x b ≡ true = eq-eqb x b e in rw t (omega arith)
-place_le b (x ∷ xs) (suc k) h e = sooner b x k xs (x == b) (place_le b xs k (omega arith) e)
+pub place_le : (b : ℕ) (xs : List ℕ) (k : ℕ) → slice_index xs k ≡ b → place_of b xs ≤ k
+place_le b xs k e =
+    ⊎_elim (λ lt. absurd (both_ways _ (fails_before_first (λ x. x == b) xs k 0 lt) (eq-eqb _ b e))) (λ le. le) (cases_lt k (place_of b xs))
 
 -- one that stands there at all has a place
-placed : (a x : ℕ) (xs : List ℕ) (t : Bool) → 1 ≤ cond t (suc (times a xs)) (times a xs) → (1 ≤ times a xs → place_of a xs < length xs) → cond t 0 (suc (place_of a xs)) < suc (length xs)
-placed a x xs true h rest = omega arith
-placed a x xs false h rest = let r : place_of a xs < length xs = rest h in omega arith
+placed : (t : Bool) (n p k : ℕ) → 1 ≤ cond t (suc n) n → (1 ≤ n → p < k) → cond (not t) (1 + p) 0 < suc k
+placed true n p k h rest = omega arith
+placed false n p k h rest = let r : p < k = rest h in omega arith
 
 pub has_place : (a : ℕ) (xs : List ℕ) → 1 ≤ times a xs → place_of a xs < length xs
 has_place a [] h = absurd (omega arith)
-has_place a (x ∷ xs) h = placed a x xs (x == a) h (has_place a xs)
+has_place a (x ∷ xs) h = placed (x == a) (times a xs) (place_of a xs) (length xs) h (has_place a xs)
 
-still_there : (t : Bool) (n : ℕ) → 1 ≤ n → 1 ≤ cond t (suc n) n
-still_there true n h = omega arith
-still_there false n h = h
+-- a search for one tells whether it stands there
+told_first : (t u : Bool) (n : ℕ) → Decides u (1 ≤ n) → Decides (t || u) (1 ≤ cond t (suc n) n)
+told_first true u n h = (λ _. omega arith, λ _. refl)
+told_first false u n h = h
 
-pub stands_there : (a : ℕ) (xs : List ℕ) (k : ℕ) → k < length xs → slice_index xs k ≡ a → 1 ≤ times a xs
-stands_there a [] k h e = absurd (omega arith)
-stands_there a (x ∷ xs) zero h e = let t : nat_eq x a ≡ true = eq-eqb x a e in rw t (omega arith)
-stands_there a (x ∷ xs) (suc k) h e = still_there (x == a) (times a xs) (stands_there a xs k (omega arith) e)
+pub times_any : (a : ℕ) (xs : List ℕ) → Decides (list_any (λ x. x == a) xs) (1 ≤ times a xs)
+times_any a [] = (λ e. absurd (both_ways false refl e), λ h. absurd (omega arith))
+times_any a (x ∷ xs) = told_first (x == a) (list_any (λ y. y == a) xs) (times a xs) (times_any a xs)
 
 -- how often one stands in two lists together
 one_more : (t : Bool) (m n : ℕ) → cond t (suc (m + n)) (m + n) ≡ cond t (suc m) m + n
@@ -111,7 +103,7 @@ nearer xs i b l h =
     let up : suc k ≡ place_of b xs = omega arith in
     let stands : slice_index_or xs (suc k) 0 ≡ b = ap (λ j. slice_index xs j) up ∙ at_place b xs h in
     let e : slice_index_or (moved xs i) k 0 ≡ b = moved_above xs i k (omega arith) (omega arith) ∙ stands in
-    omega (arith, place_le b (moved xs i) k (omega (arith, length_moved xs i)) e)
+    omega (arith, place_le b (moved xs i) k e)
 
 -- where nobody before i is ready, a ready one that does not stand at i stands after it
 pub stands_after : (ready : ℕ → Bool) (xs : List ℕ) (i b : ℕ) → ((k : ℕ) → k < i → ready (slice_index xs k) ≡ false) → place_of b xs < length xs → ready b ≡ true → (b ≢ slice_index xs i) → i < place_of b xs
@@ -127,8 +119,32 @@ comes_nearer ready xs i j b h before q r other =
     let after = stands_after ready xs i b before q r other in
     nearer xs j b (omega arith) q
 
-pub none_ready : (ready : ℕ → Bool) (xs : List ℕ) → ((k : ℕ) → k < length xs → ready (slice_index xs k) ≡ false) → (a : ℕ) → place_of a xs < length xs → ready a ≡ false
+pub none_ready : (ready : ℕ → Bool) (xs : List ℕ) → NoneIn ready xs → (a : ℕ) → place_of a xs < length xs → ready a ≡ false
 none_ready ready xs before a q = sym (ap ready (at_place a xs q)) ∙ before (place_of a xs) q
+
+-- a search through two lists, one after the other
+module _ (ready : ℕ → Bool) (xs ys : List ℕ) where
+  pub first_left : (i : ℕ) → FirstAt ready xs i → FirstAt ready (xs ++ ys) i
+  first_left i f = record {
+    within = omega (arith, f.within, length-append xs ys);
+    here = ap ready (get_or_append_left xs ys 0 i f.within) ∙ f.here;
+    before = λ k lt. ap ready (get_or_append_left xs ys 0 k (omega (arith, f.within))) ∙ f.before k lt;
+  }
+
+  pub none_both : NoneIn ready xs → NoneIn ready ys → NoneIn ready (xs ++ ys)
+  none_both h g k lt =
+      ⊎_elim (λ below. ap ready (get_or_append_left xs ys 0 k below) ∙ h k below)
+      (λ past. ap ready (get_or-append_right xs ys (length xs) k 0 refl past) ∙ g (k - length xs) (omega (arith, length-append xs ys)))
+      (cases_lt k (length xs))
+
+  pub first_right : (i : ℕ) → NoneIn ready xs → FirstAt ready ys i → FirstAt ready (xs ++ ys) (length xs + i)
+  first_right i h f = record {
+    within = omega (arith, f.within, length-append xs ys);
+    here = ap ready (get_or-append_right xs ys (length xs) (length xs + i) 0 refl (omega arith)) ∙ ap (λ k. ready (slice_index ys k)) (omega arith) ∙ f.here;
+    before = λ k lt. ⊎_elim (λ below. ap ready (get_or_append_left xs ys 0 k below) ∙ h k below)
+        (λ past. ap ready (get_or-append_right xs ys (length xs) k 0 refl past) ∙ f.before (k - length xs) (omega arith))
+        (cases_lt k (length xs));
+  }
 
 -- a search that ends at i has found the first ready one
 pub record Found (ready : ℕ → Bool) (xs : List ℕ) (i : ℕ) : Type 0 where
@@ -136,21 +152,25 @@ pub record Found (ready : ℕ → Bool) (xs : List ℕ) (i : ℕ) : Type 0 where
   pub sent : sent_back ready xs ≡ moved xs i
   pub passed : passed_over ready xs ≡ i
 
-pub found_at : (ready : ℕ → Bool) (xs : List ℕ) (i : ℕ) → i < length xs → ready (slice_index xs i) ≡ true → ((k : ℕ) → k < i → ready (slice_index xs k) ≡ false) → Found ready xs i
-found_at ready [] i l h before = absurd (omega arith)
-found_at ready (x ∷ xs) zero l h before =
-    record { first = ap (λ t. cond t (Some x) (first_ready ready xs)) h; sent = ap (λ t. cond t (xs ++ x ∷ []) (x ∷ sent_back ready xs)) h; passed = ap (λ t. cond t zero (suc (passed_over ready xs))) h }
-found_at ready (x ∷ xs) (suc i) l h before =
-    let b : ready x ≡ false = before 0 (omega arith) in
-    let rest = found_at ready xs i (omega arith) h (λ k lt. before (suc k) (omega arith)) in
+pub found_at : (ready : ℕ → Bool) (xs : List ℕ) (i : ℕ) → FirstAt ready xs i → Found ready xs i
+found_at ready [] i f = absurd (omega (arith, f.within))
+found_at ready (x ∷ xs) zero f =
+    record {
+      first = ap (λ t. cond t (Some x) (first_ready ready xs)) f.here;
+      sent = ap (λ t. cond t (xs ++ x ∷ []) (x ∷ sent_back ready xs)) f.here;
+      passed = position_or_len_is ready (x ∷ xs) 0 0 (omega arith) (λ k lt. absurd (omega arith)) (λ _. f.here);
+    }
+found_at ready (x ∷ xs) (suc i) f =
+    let b : ready x ≡ false = f.before 0 (omega arith) in
+    let rest = found_at ready xs i (record { within = omega (arith, f.within); here = f.here; before = λ k lt. f.before (suc k) (omega arith) }) in
     record {
       first = ap (λ t. cond t (Some x) (first_ready ready xs)) b ∙ rest.first;
       sent = ap (λ t. cond t (xs ++ x ∷ []) (x ∷ sent_back ready xs)) b ∙ ap (λ ys. x ∷ ys) rest.sent;
-      passed = ap (λ t. cond t zero (suc (passed_over ready xs))) b ∙ ap suc rest.passed;
+      passed = position_or_len_is ready (x ∷ xs) (suc i) 0 (omega (arith, f.within)) f.before (λ _. f.here);
     }
 
 -- and one that ends nowhere has found nobody
-pub found_none : (ready : ℕ → Bool) (xs : List ℕ) → ((k : ℕ) → k < length xs → ready (slice_index xs k) ≡ false) → (first_ready ready xs ≡ None) × (sent_back ready xs ≡ xs)
+pub found_none : (ready : ℕ → Bool) (xs : List ℕ) → NoneIn ready xs → (first_ready ready xs ≡ None) × (sent_back ready xs ≡ xs)
 found_none ready [] before = (refl, refl)
 found_none ready (x ∷ xs) before =
     let b : ready x ≡ false = before 0 (omega arith) in

@@ -1,6 +1,6 @@
 -- Going round a table from the mark: which place comes when, and what moving the mark does to the distances.
-use Rattle.std.specs.Prelude.{◌≡◌, ℕ, ◌+◌, ◌-◌, ◌%◌, ◌<◌, ◌≤◌, Bool, true, false, cond, List, length, take, drop, Some, None, Option, MatchOption, ◌≢◌, slice_index, slice_index_or, refl}
-use Rattle.std.proofs.Common.{⊎_elim, sym, ap, ◌∙◌, mod-eq_of_lt, arith}
+use Rattle.std.specs.Prelude.{◌≡◌, ℕ, ◌+◌, ◌-◌, ◌%◌, ◌<◌, ◌≤◌, Bool, true, cond, List, length, take, drop, Some, None, Option, MatchOption, ◌≢◌, slice_index, slice_index_or, refl}
+use Rattle.std.proofs.Common.{⊎_elim, sym, ap, ◌∙◌, subst, mod-eq_of_lt, arith}
 use Rattle.std.proofs.Math.Nat.{add-mod_right}
 use Rattle.std.proofs.lemmas.List.{length-take, length-drop, length-append, get_or_append_left, get_or-append_right, get_or-drop, get_or-take, take-append-drop}
 use Rattle.std.proofs.lemmas.Bool.{lt-ltb, le-ltb, cases_lt}
@@ -10,7 +10,7 @@ use Rattle.spare.specs.Orders.{place_of, times}
 use Rattle.spare.specs.Search.{NoneIn, FirstAt, passed_to, NextAt}
 use Rattle.spare.specs.Sets.{is_ready}
 use Rattle.spare.specs.Wheels.{after_mark, WheelStep}
-use Rattle.spare.specs.OrdersLemmas.{at_place, place_le, has_place, times_append, stands_after, none_ready, found_at, found_none}
+use Rattle.spare.specs.OrdersLemmas.{at_place, place_le, has_place, times_append, stands_after, none_ready, first_left, none_both, first_right, found_at, found_none}
 use Rattle.spare.specs.SetsLemmas.{member_known, from_below}
 
 -- the number of places passed over, on either side of the mark
@@ -76,73 +76,50 @@ module _ (xs : List ℕ) where
 
 -- the searches after the mark and up to it, as one search round the table
 module _ (ready : ℕ → Bool) (xs : List ℕ) (m : ℕ) (l : m < length xs) where
-  none_ahead : NoneIn ready xs (m + 1) (length xs) → (k : ℕ) → m + 1 + k < length xs → ready (slice_index (after_mark xs m) k) ≡ false
-  none_ahead h k lt = ap ready (round_front xs m k (m + 1 + k) refl lt) ∙ h (m + 1 + k) (omega arith) lt
+  next_ahead : (k : ℕ) → FirstAt ready (drop (m + 1) xs) k → NextAt ready xs m (m + 1 + k)
+  next_ahead k f = record {
+    within = omega (arith, f.within, length-drop (m + 1) xs);
+    first = subst (FirstAt ready (after_mark xs m)) (sym (passed_ahead (length xs) m (m + 1 + k) (omega arith) ∙ omega arith)) (first_left ready (drop (m + 1) xs) (take (m + 1) xs) k f);
+  }
 
-  none_back : (i : ℕ) → NoneIn ready xs 0 i → (k : ℕ) → k < length xs → length xs ≤ m + 1 + k → m + 1 + k < i + length xs → ready (slice_index (after_mark xs m) k) ≡ false
-  none_back i h k lt past below =
-      ap ready (round_back xs m k (m + 1 + k - length xs) l (omega arith) lt) ∙ h (m + 1 + k - length xs) (omega arith) (omega arith)
-
-  pub next_ahead : (i : ℕ) → FirstAt ready xs (m + 1) (length xs) i → NextAt ready xs m i
-  next_ahead i f =
-      let e = passed_ahead (length xs) m i (omega (arith, f.low)) in
-      let h = f.high in
-      let low = f.low in
-      record {
-        within = f.high;
-        first = record {
-          low = omega arith;
-          high = omega arith;
-          here = ap ready (round_at xs m i l f.high) ∙ f.here;
-          before = λ k z lt. ap ready (round_front xs m k (m + 1 + k) refl (omega arith)) ∙ f.before (m + 1 + k) (omega arith) (omega arith);
-        };
-      }
-
-  pub next_round : (i : ℕ) → NoneIn ready xs (m + 1) (length xs) → FirstAt ready xs 0 (m + 1) i → NextAt ready xs m i
+  next_round : (i : ℕ) → NoneIn ready (drop (m + 1) xs) → FirstAt ready (take (m + 1) xs) i → NextAt ready xs m i
   next_round i none f =
-      let h = f.high in
-      let e = passed_round (length xs) m i (omega arith) in
-      let w : i < length xs = omega arith in
+      let long = length-take (m + 1) xs in
+      let w = f.within in
+      let passed : passed_to (length xs) m i ≡ length (drop (m + 1) xs) + i = passed_round (length xs) m i (omega arith) ∙ omega (arith, length-drop (m + 1) xs) in
       record {
-        within = w;
-        first = record {
-          low = omega arith;
-          high = omega arith;
-          here = ap ready (round_at xs m i l w) ∙ f.here;
-          before = λ k z lt. ⊎_elim (none_ahead none k) (λ past. none_back i f.before k (omega arith) past (omega arith)) (cases_lt (m + 1 + k) (length xs));
-        };
+        within = omega arith;
+        first = subst (FirstAt ready (after_mark xs m)) (sym passed) (first_right ready (drop (m + 1) xs) (take (m + 1) xs) i none f);
       }
 
-  pub none_round : NoneIn ready xs (m + 1) (length xs) → NoneIn ready xs 0 (m + 1) → NoneIn ready (after_mark xs m) 0 (length xs)
-  none_round h g k z lt = ⊎_elim (none_ahead h k) (λ past. none_back (m + 1) g k lt past (omega arith)) (cases_lt (m + 1 + k) (length xs))
-
-  pub next_of : (o : Option ℕ) → NoneIn ready xs (m + 1) (length xs) → MatchOption o (NoneIn ready xs 0 (m + 1)) (FirstAt ready xs 0 (m + 1)) → MatchOption o (NoneIn ready (after_mark xs m) 0 (length xs)) (NextAt ready xs m)
-  next_of None h g = none_round h g
-  next_of (Some i) h g = next_round i h g
+  module _ (front back : List ℕ) (ef : front ≡ take (m + 1) xs) (eb : back ≡ drop (m + 1) xs) where
+    pub next_of : (b o : Option ℕ) → MatchOption b (NoneIn ready back) (FirstAt ready back) →
+        MatchOption b (MatchOption o (NoneIn ready front) (FirstAt ready front)) (λ k. o ≡ Some (length front + k)) →
+        MatchOption o (NoneIn ready (after_mark xs m)) (NextAt ready xs m)
+    next_of (Some k) o f e =
+        let long : m + 1 ≡ length front = omega (arith, length-take (m + 1) xs, ap length ef) in
+        rw e (subst (λ n. NextAt ready xs m (n + k)) long (next_ahead k (subst (λ (zs : List ℕ). FirstAt ready zs k) eb f)))
+    next_of None None h g = none_both ready (drop (m + 1) xs) (take (m + 1) xs) (subst (NoneIn ready) eb h) (subst (NoneIn ready) ef g)
+    next_of None (Some i) h f = next_round i (subst (NoneIn ready) eb h) (subst (λ (zs : List ℕ). FirstAt ready zs i) ef f)
 
 -- what the wheel's search tells of its choice
 module _ (s : ReadySet) (xs : List ℕ) (m : ℕ) (l : m < length xs) (all : (a : ℕ) → a < 16 → 1 ≤ times a xs) where
   stands : (a : ℕ) → a < 16 → place_of a (after_mark xs m) < length (after_mark xs m)
   stands a h = omega (arith, comes_round xs a m l (all a h), round_length xs m l)
 
-  pub nobody : (p : ℕ) → NoneIn (is_ready s) (after_mark xs m) 0 (length xs) → NamesNobody (is_ready s) (λ a. place_of a (after_mark xs m)) p (λ a. place_of a (after_mark xs m)) p
+  pub nobody : (p : ℕ) → NoneIn (is_ready s) (after_mark xs m) → NamesNobody (is_ready s) (λ a. place_of a (after_mark xs m)) p (λ a. place_of a (after_mark xs m)) p
   nobody p h =
-      let n = round_length xs m l in
       record {
-        idle = from_below s (λ a lt. none_ready (is_ready s) (after_mark xs m) (λ k b. h k (omega arith) (omega arith)) a (stands a lt));
+        idle = from_below s (λ a lt. none_ready (is_ready s) (after_mark xs m) h a (stands a lt));
         distances = λ a. refl;
         steady = refl;
       }
 
-  pub stays : NoneIn (is_ready s) (after_mark xs m) 0 (length xs) → WheelStep xs m (is_ready s) None xs m
+  pub stays : NoneIn (is_ready s) (after_mark xs m) → WheelStep xs m (is_ready s) None xs m
   stays h =
-      let n = round_length xs m l in
-      record { names = sym (found_none (is_ready s) (after_mark xs m) (λ k b. h k (omega arith) (omega arith))).0; moves = refl; same_places = refl }
+      record { names = sym (found_none (is_ready s) (after_mark xs m) h).0; moves = refl; same_places = refl }
 
   module _ (i : ℕ) (f : NextAt (is_ready s) xs m i) (known : (k : ℕ) → k < length xs → slice_index xs k < 16) where
-    before : (k : ℕ) → k < passed_to (length xs) m i → is_ready s (slice_index (after_mark xs m) k) ≡ false
-    before k lt = f.first.before k (omega arith) lt
-
     at : slice_index_or (after_mark xs m) (passed_to (length xs) m i) 0 ≡ slice_index xs i
     at = round_at xs m i l f.within
 
@@ -151,9 +128,9 @@ module _ (s : ReadySet) (xs : List ℕ) (m : ℕ) (l : m < length xs) (all : (a 
         let n = round_length xs m l in
         let q = stands b (member_known s b r) in
         let w = f.within in
-        let later = stands_after (is_ready s) (after_mark xs m) (passed_to (length xs) m i) b before q r (λ e. other (e ∙ at)) in
+        let later = stands_after (is_ready s) (after_mark xs m) (passed_to (length xs) m i) b f.first.before q r (λ e. other (e ∙ at)) in
         let here = round_later xs m i (place_of b (after_mark xs m)) l f.within (omega arith) later ∙ at_place b (after_mark xs m) q in
-        omega (arith, place_le b (after_mark xs i) (place_of b (after_mark xs m) - passed_to (length xs) m i - 1) (omega (arith, round_length xs i f.within)) here)
+        omega (arith, place_le b (after_mark xs i) (place_of b (after_mark xs m) - passed_to (length xs) m i - 1) here)
 
     pub names : (p : ℕ) → Names (slice_index xs i) (is_ready s) (λ a. place_of a (after_mark xs m)) p (λ a. place_of a (after_mark xs i)) p
     names p =
@@ -166,9 +143,7 @@ module _ (s : ReadySet) (xs : List ℕ) (m : ℕ) (l : m < length xs) (all : (a 
 
     pub turns : WheelStep xs m (is_ready s) (Some (slice_index xs i)) xs i
     turns =
-        let n = round_length xs m l in
-        let h = f.first.high in
-        let g = found_at (is_ready s) (after_mark xs m) (passed_to (length xs) m i) (omega arith) f.first.here before in
+        let g = found_at (is_ready s) (after_mark xs m) (passed_to (length xs) m i) f.first in
         record {
           names = ap Some (sym at) ∙ sym g.first;
           moves = round_mark xs m i l f.within ∙ ap (λ k. (m + 1 + k) % length xs) (sym g.passed);

@@ -1,17 +1,16 @@
 -- What the searches inside the queue and the wheel find, place by place.
-use Rattle.std.specs.Prelude.{◌≡◌, ℕ, ◌+◌, ◌-◌, ◌<◌, ◌≤◌, Bool, true, false, cond, List, ◌++◌, length, take, drop, nat_lt, slice_index}
+use Rattle.std.specs.Prelude.{◌≡◌, ℕ, ◌+◌, ◌-◌, ◌<◌, Bool, true, false, cond, List, ◌++◌, length, take, drop, nat_lt, slice_index}
 use Rattle.spare.specs.Wheels.{after_mark}
 
--- nobody ready stands from one place up to another
-abbrev pub NoneIn : (ℕ → Bool) → List ℕ → ℕ → ℕ → Type 0
-NoneIn ready xs from to = (k : ℕ) → from ≤ k → k < to → ready (slice_index xs k) ≡ false
+-- nobody ready stands in the list
+abbrev pub NoneIn : (ℕ → Bool) → List ℕ → Type 0
+NoneIn ready xs = (k : ℕ) → k < length xs → ready (slice_index xs k) ≡ false
 
--- i is the first place from one up to another at which a ready one stands
-pub record FirstAt (ready : ℕ → Bool) (xs : List ℕ) (from to i : ℕ) : Type 0 where
-  pub low : from ≤ i
-  pub high : i < to
+-- i is the first place at which a ready one stands
+pub record FirstAt (ready : ℕ → Bool) (xs : List ℕ) (i : ℕ) : Type 0 where
+  pub within : i < length xs
   pub here : ready (slice_index xs i) ≡ true
-  pub before : NoneIn ready xs from i
+  pub before : (k : ℕ) → k < i → ready (slice_index xs k) ≡ false
 
 -- what stands at a place goes to the end
 abbrev pub moved : List ℕ → ℕ → List ℕ
@@ -24,4 +23,4 @@ passed_to n mark i = cond (nat_lt mark i) (i - (mark + 1)) (i + n - (mark + 1))
 -- i is the next place of a ready one, going round
 pub record NextAt (ready : ℕ → Bool) (places : List ℕ) (mark i : ℕ) : Type 0 where
   pub within : i < length places
-  pub first : FirstAt ready (after_mark places mark) 0 (length places) (passed_to (length places) mark i)
+  pub first : FirstAt ready (after_mark places mark) (passed_to (length places) mark i)

@@ -9,6 +9,13 @@ pub record Table (places : List ℕ) : Type 0 where
   pub known : (k : ℕ) → k < length places → slice_index places k < 16
   pub all : (a : ℕ) → a < 16 → 1 ≤ times a places
 
+-- a wheel, as its callers see it: its places, and the mark on one of them
+pub record MarkedTable : Type 0 where
+  pub places : List ℕ
+  pub mark : ℕ
+  pub table : Table places
+  pub marked : mark < length places
+
 -- the places in the order in which they are asked: the ones after the mark, and then round from the front to the mark itself
 abbrev pub after_mark : List ℕ → ℕ → List ℕ
 after_mark places mark = drop (mark + 1) places ++ take (mark + 1) places

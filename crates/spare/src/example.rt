@@ -5,7 +5,7 @@ ghost use Rattle.spare.specs.Example.{HeldQueueExample};
 use crate::hold::Hold;
 use crate::queue::Queue;
 use crate::ready::ReadySet;
-use crate::rule::SpareRule;
+use crate::waiting::name_each;
 
 /// Whom a queue under a hold of one repeat names in five calls, while 0 and 1 are ready: each of the two twice, in turn.
 pub fn held_queue() -> [Option<u8>; 5]
@@ -14,10 +14,7 @@ pub fn held_queue() -> [Option<u8>; 5]
 {
     let ready = ReadySet::empty().with(0).with(1);
     let mut rule = Hold::new(Queue::new(), 1);
-    let first = rule.choose(ready);
-    let second = rule.choose(ready);
-    let third = rule.choose(ready);
-    let fourth = rule.choose(ready);
-    let fifth = rule.choose(ready);
-    [first, second, third, fourth, fifth]
+    let mut names = [None; 5];
+    let _ = name_each(&mut rule, &[ready; 5], &mut names);
+    names
 }

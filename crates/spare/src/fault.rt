@@ -4,15 +4,16 @@ ghost use Rattle.spare.specs.Told.{number_of};
 ghost use Rattle.spare.specs.declared.fault.WheelFault.TheVariants.{Memory};
 
 use std::alloc::AllocError;
-use std::error::Error;
-use std::fmt;
+use thiserror::Error;
 
 /// A refusal of the places of a wheel.
-#[derive(Clone, Copy, PartialEq, Eq, Debug)]
+#[derive(Clone, Copy, PartialEq, Eq, Debug, Error)]
 pub enum WheelFault {
     /// 25: there are under 16 or over 64 places, one of them is over 15, or an activity has none.
+    #[error("25: not 16 to 64 places, each an activity, with every activity among them")]
     Places,
     /// There was no memory for the places. It has no number, since the places themselves are sound.
+    #[error("no memory for the wheel")]
     Memory,
 }
 
@@ -28,6 +29,7 @@ impl WheelFault {
     }
 }
 
+// By hand, since what `#[from]` writes has no contract, and `fill` needs this one's.
 impl From<AllocError> for WheelFault {
     ghost from_gives = { λ _ r. r ≡ Memory };
 
@@ -35,17 +37,3 @@ impl From<AllocError> for WheelFault {
         Self::Memory
     }
 }
-
-impl fmt::Display for WheelFault {
-    fn fmt<W: fmt::Write>(&self, f: &mut fmt::Formatter<W>) -> fmt::Result {
-        match self {
-            WheelFault::Places => write!(
-                f,
-                "25: not 16 to 64 places, each an activity, with every activity among them"
-            ),
-            WheelFault::Memory => write!(f, "no memory for the wheel"),
-        }
-    }
-}
-
-impl Error for WheelFault {}

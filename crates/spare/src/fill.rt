@@ -19,34 +19,28 @@ pub const MOST_PLACES: usize = 64;
 fn are_known(places: &[u8]) -> bool
     ensures { Decides result ((k : ℕ) → k < length places.now → slice_index places.now k < 16) }
 {
-    for place in places {
-        if *place >= ACTIVITIES {
-            return false;
-        }
-    }
-    true
+    places.iter().all(|&place| place < ACTIVITIES)
+}
+
+// Whether the activity stands at some place.
+fn stands(activity: u8, places: &[u8]) -> bool
+    ensures { Decides result (1 ≤ times activity places.now) }
+{
+    places.contains(&activity)
 }
 
 // Whether every activity stands at some place.
 fn has_all(places: &[u8]) -> bool
     ensures { Decides result ((a : ℕ) → a < 16 → 1 ≤ times a places.now) }
 {
-    for activity in 0..ACTIVITIES {
-        if !places.contains(&activity) {
-            return false;
-        }
-    }
-    true
+    (0..ACTIVITIES).all(|activity| stands(activity, places))
 }
 
 // Whether a wheel can have these places.
 fn is_table(places: &[u8]) -> bool
     ensures { Decides result (Table places.now) }
 {
-    FEWEST_PLACES <= places.len()
-        && places.len() <= MOST_PLACES
-        && are_known(places)
-        && has_all(places)
+    (FEWEST_PLACES..=MOST_PLACES).contains(&places.len()) && are_known(places) && has_all(places)
 }
 
 impl Wheel {
@@ -59,8 +53,7 @@ impl Wheel {
         if !is_table(places) {
             return Err(WheelFault::Places);
         }
-        let copy = Vec::from_slice(*self.places.allocator(), places)?;
-        self.places = copy;
+        self.places = Vec::from_slice(*self.places.allocator(), places)?;
         self.mark = places.len() - 1;
         Ok(())
     }

@@ -1,6 +1,8 @@
 // A hold over any spare rule: the struct, and what can be asked of it. How it chooses stands in `hold_rule`.
 ghost use Rattle.std.specs.Prelude.{◌≡◌, ℕ, ◌≤◌, None};
 
+use std::marker::Model;
+
 /// The rule `below`, each of whose choices is repeated up to `repeats` more times while that activity is ready.
 #[derive(Drop)]
 pub struct Hold<R> {
@@ -9,6 +11,15 @@ pub struct Hold<R> {
     pub(crate) choice: Option<u8>,
     pub(crate) left: u8,
     ghost few: { left ≤ repeats },
+}
+
+// The value carries the fact `few`, since the law `bounded` of a rule is asked of every value.
+impl<R> Model for Hold<R> {
+    ghost use Rattle.spare.specs.Holding.{Holding};
+
+    ghost Value = { Holding R };
+
+    ghost view = { λ h. record { below = h.below; repeats = h.repeats; choice = h.choice; left = h.left; few = h.few } };
 }
 
 impl<R> Hold<R> {
@@ -60,12 +71,7 @@ impl<R> Hold<R> {
     pub fn into_below(self) -> R
         ensures { result ≡ self.below }
     {
-        let Hold {
-            below,
-            repeats: _,
-            choice: _,
-            left: _,
-        } = self;
+        let Hold { below, .. } = self;
         below
     }
 }

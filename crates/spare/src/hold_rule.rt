@@ -14,17 +14,8 @@ impl<R> Hold<R> {
     fn held(&self, ready: ReadySet) -> Option<u8>
         ensures { MatchOption result (repeating (is_ready ready) self.now ≡ false) (λ a. Held (is_ready ready) self.now a) }
     {
-        if self.left == 0 {
-            return None;
-        }
-        let Some(activity) = self.choice else {
-            return None;
-        };
-        if ready.has(activity) {
-            Some(activity)
-        } else {
-            None
-        }
+        let activity = self.choice?;
+        (self.left > 0 && ready.has(activity)).then_some(activity)
     }
 }
 
@@ -42,9 +33,7 @@ impl<R: SpareRule> SpareRule for Hold<R> {
             self.left -= 1;
             return Some(activity);
         }
-        let Some(activity) = self.below.choose(ready) else {
-            return None;
-        };
+        let activity = self.below.choose(ready)?;
         self.choice = Some(activity);
         self.left = self.repeats;
         Some(activity)

@@ -1,32 +1,28 @@
 // The queue: the first ready one goes to the end.
-ghost use Rattle.std.specs.Prelude.{◌≡◌, ℕ, ◌<◌, ◌≤◌, length, slice_index};
-ghost use Rattle.spare.specs.Orders.{QueueStep, place_of, times, in_order};
-ghost use Rattle.spare.specs.Search.{moved};
+ghost use Rattle.std.specs.Prelude.{◌≡◌, ℕ, ◌<◌};
+ghost use Rattle.spare.specs.Orders.{EachOnce, QueueStep, place_of, times, in_order};
 ghost use Rattle.std.proofs.Common.{arith};
 ghost use Rattle.spare.specs.OrdersLemmas.{has_place};
 
-use crate::ready::ReadySet;
+use crate::ready::{IN_ORDER, ReadySet};
 use crate::rule::SpareRule;
 use crate::search::first_ready;
+use std::marker::Model;
 
 /// A rule that names the first ready activity of its order and moves it to the end.
 #[derive(Drop)]
 pub struct Queue {
     order: [u8; 16],
-    ghost long: { length order ≡ 16 },
-    ghost known: { ((k : ℕ) → k < 16 → slice_index order k < 16) },
-    ghost once: { ((a : ℕ) → a < 16 → times a order ≡ 1) },
+    ghost each_once: { EachOnce order },
 }
 
-// The order with what stands at `place` moved to the end.
-fn to_end(order: [u8; 16], place: usize) -> [u8; 16]
-    requires { place < 16 }
-    ensures { result ≡ moved order place }
-{
-    let mut next = order;
-    let rest = &mut next[place..16];
-    rest.rotate_left(1);
-    next
+// The value carries the fact `each_once`, since the law `bounded` of a rule is asked of every value.
+impl Model for Queue {
+    ghost use Rattle.spare.specs.Orders.{Turns};
+
+    ghost Value = { Turns };
+
+    ghost view = { λ q. record { order = q.order; each_once = q.each_once } };
 }
 
 impl Queue {
@@ -34,9 +30,7 @@ impl Queue {
     pub fn new() -> Queue
         ensures { result.order ≡ in_order }
     {
-        Queue {
-            order: [0, 1, 2, 3, 4, 5, 6, 7, 8, 9, 10, 11, 12, 13, 14, 15],
-        }
+        Queue { order: IN_ORDER }
     }
 
     /// The order: every activity once, the one that is asked first in front.
@@ -55,14 +49,12 @@ impl SpareRule for Queue {
 
     ghost step = { λ q ready r q'. QueueStep q.order ready r q'.order };
 
-    ghost bounded = { λ x a h. omega (arith, has_place a x.order (omega (arith, x.once a h)), x.long) };
+    ghost bounded = { λ x a h. omega (arith, has_place a x.order (omega (arith, x.each_once.once a h)), x.each_once.long) };
 
     fn choose(&mut self, ready: ReadySet) -> Option<u8> {
-        let order = self.order;
-        let Some(first) = first_ready(&order, 0, 16, ready) else {
-            return None;
-        };
-        self.order = to_end(order, first);
-        Some(order[first])
+        let first = first_ready(&self.order, ready)?;
+        let named = self.order[first];
+        self.order[first..].rotate_left(1);
+        Some(named)
     }
 }

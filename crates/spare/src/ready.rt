@@ -5,7 +5,11 @@ ghost use Rattle.spare.specs.Sets.{is_ready};
 /// How many activities there are: 0 to 15.
 pub const ACTIVITIES: u8 = 16;
 
+/// The activities in the order of their numbers.
+pub(crate) const IN_ORDER: [u8; 16] = [0, 1, 2, 3, 4, 5, 6, 7, 8, 9, 10, 11, 12, 13, 14, 15];
+
 /// A set of activities. No number above 15 is ever in one.
+// An array with a place for each, since the set is copied at each call and takes no memory from a heap.
 #[derive(Clone, Copy, Debug)]
 pub struct ReadySet {
     members: [bool; 16],
@@ -43,12 +47,7 @@ impl ReadySet {
         ensures others { (b : ℕ) → (b ≢ activity) → is_ready result b ≡ is_ready self b }
         ensures unknown { 16 ≤ activity → result ≡ self }
     {
-        if activity >= ACTIVITIES {
-            return self;
-        }
-        let mut members = self.members;
-        members[activity as usize] = true;
-        ReadySet { members }
+        self.having(activity, true)
     }
 
     /// The set without this activity; for a number above 15 the set as it is.
@@ -57,11 +56,20 @@ impl ReadySet {
         ensures others { (b : ℕ) → (b ≢ activity) → is_ready result b ≡ is_ready self b }
         ensures unknown { 16 ≤ activity → result ≡ self }
     {
-        if activity >= ACTIVITIES {
-            return self;
-        }
+        self.having(activity, false)
+    }
+
+    // The set in which this activity is, or is not, and all else is as it was.
+    fn having(self, activity: u8, member: bool) -> ReadySet
+        ensures member { activity < 16 → is_ready result activity ≡ member }
+        ensures others { (b : ℕ) → (b ≢ activity) → is_ready result b ≡ is_ready self b }
+        ensures unknown { 16 ≤ activity → result ≡ self }
+    {
         let mut members = self.members;
-        members[activity as usize] = false;
+        // By index: after `get_mut` (tried) a proof has the length of what was written, and not its elements.
+        if activity < ACTIVITIES {
+            members[activity as usize] = member;
+        }
         ReadySet { members }
     }
 
@@ -69,11 +77,6 @@ impl ReadySet {
     pub fn is_empty(self) -> bool
         ensures { Decides result ((a : ℕ) → is_ready self a ≡ false) }
     {
-        for activity in 0..ACTIVITIES {
-            if self.has(activity) {
-                return false;
-            }
-        }
-        true
+        !self.members.contains(&true)
     }
 }

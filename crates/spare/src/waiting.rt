@@ -19,6 +19,7 @@ pub fn name_each<R: SpareRule>(rule: &mut R, sets: &[ReadySet], names: &mut [Opt
     ensures always { NeverStarves R.SpareRule rule.new }
 {
     let count = sets.len().min(names.len());
+    // By place: over a `zip` with `iter_mut` (tried) the proof has the length of what was written, and not whom it names.
     for k in 0..count {
         names[k] = rule.choose(sets[k]);
     }

@@ -88,10 +88,8 @@ fn a_hold_of_none_changes_nothing_and_one_of_255_repeats_so_often(rt: HostRuntim
 
 // Writes the activities over the first places.
 fn put_all(places: &mut [u8]) {
-    for activity in 0..16u8 {
-        if (activity as usize) < places.len() {
-            places[activity as usize] = activity;
-        }
+    for (place, activity) in places.iter_mut().zip(0..16) {
+        *place = activity;
     }
 }
 
@@ -165,15 +163,9 @@ fn tables_that_are_none_are_refused(rt: HostRuntime) -> Result<(), Fail> {
 fn a_hold_over_a_hold_over_a_wheel(rt: HostRuntime) -> Result<(), Fail> {
     let mut rule = Hold::new(Hold::new(Wheel::new(rt.alloc())?, 1), 2);
     has_patience(&rule, 95);
-    let mut named = [0u8; 16];
-    for _ in 0..12u8 {
-        if let Some(activity) = rule.choose(ReadySet::all()) {
-            if activity < 16 && named[activity as usize] < 255 {
-                named[activity as usize] += 1;
-            }
-        }
-    }
-    assert!(rt; named[0] == 6 && named[1] == 6);
+    let mut names = [None; 12];
+    let _ = name_each(&mut rule, &[ReadySet::all(); 12], &mut names);
+    assert!(rt; names[..6] == [Some(0); 6] && names[6..] == [Some(1); 6]);
     assert_eq!(rt; rule.below().left(), 0);
     assert_eq!(rt; rule.into_below().into_below().mark(), 1);
     Ok(())

@@ -1,12 +1,14 @@
-use Rattle.std.proofs.Common.{ℕ, Bool, Option, ap, ◌∙◌, arith}
+use Rattle.std.proofs.Common.{◌≡◌, ℕ, ◌+◌, ◌*◌, Bool, List, [], ◌∷◌, take, Option, ap, ◌∙◌, subst, arith}
+use Rattle.std.proofs.lemmas.List.{take_all}
 use Rattle.spare.specs.declared.hold.Hold.{Hold}
 use Rattle.spare.specs.declared.queue.Queue.{Queue}
 use Rattle.spare.specs.Asking.{CallOf}
+use Rattle.spare.specs.Calls.{Ran}
 use Rattle.spare.specs.Example.{NewHold, TwoReady, HeldQueueStep}
 use Rattle.spare.specs.Holds.{HoldStep, repeating}
 use Rattle.spare.specs.Orders.{QueueStep, place_of}
 use Rattle.spare.specs.Sets.{is_ready}
-use Rattle.spare.proofs.Examples.{hold_weaker, held_queue_example}
+use Rattle.spare.proofs.Examples.{hold_weaker, held_queue_example, ran_weaker, ran_example}
 use Rattle.spare.proofs.example.held_queue.Goals as goal
 
 -- what the queue's call says, by its own clause alone
@@ -16,10 +18,14 @@ Whole = CallOf (record { distance = λ q a. place_of a q.order; patience = λ q.
 own : (h : Hold Queue) (ready : ℕ → Bool) (o : Option ℕ) (h' : Hold Queue) → HoldStep Whole h ready o h' → HeldQueueStep h ready o h'
 own h ready o h' s = hold_weaker Whole (λ q r n q'. QueueStep q.order r n q'.order) (λ x r n y w. w.1) (repeating ready h) h ready o h' s
 
+-- and what the hold's call says over it
+abbrev WholeHold : Hold Queue → (ℕ → Bool) → Option ℕ → Hold Queue → Type 0
+WholeHold = CallOf (record { distance = λ h a. (h.repeats + 1) * place_of a h.below.order + h.left; patience = λ h. (h.repeats + 1) * 15 + h.repeats; step = HoldStep Whole })
+
 pub returns : goal.returns
 returns c =
-    let ready = is_ready c.with-ready.result in
-    let two : TwoReady ready = record {
+    let set = c.with-ready.result in
+    let two : TwoReady (is_ready set) = record {
       zero_ready = c.with-ready.ensures.others 0 (λ e. omega arith) ∙ c.with.ensures.member (omega arith);
       one_ready = c.with-ready.ensures.member (omega arith);
       others = λ a h. c.with-ready.ensures.others a (λ e. omega arith) ∙ c.with.ensures.others a (λ e. omega arith) ∙ c.empty.ensures a;
@@ -30,19 +36,14 @@ returns c =
       choice_is = c.new-rule.ensures.choice;
       left_is = c.new-rule.ensures.left;
     } in
-    let h₀ = c.new-rule.result in
-    let h₁ = c.choose-first.new.self in
-    let h₂ = c.choose-second.new.self in
-    let h₃ = c.choose-third.new.self in
-    let h₄ = c.choose-fourth.new.self in
-    let h₅ = c.choose-fifth.new.self in
-    let s₁ = own h₀ ready c.choose-first.result h₁ c.choose-first.ensures.exact in
-    let s₂ = own h₁ ready c.choose-second.result h₂ c.choose-second.ensures.exact in
-    let s₃ = own h₂ ready c.choose-third.result h₃ c.choose-third.ensures.exact in
-    let s₄ = own h₃ ready c.choose-fourth.result h₄ c.choose-fourth.ensures.exact in
-    let s₅ = own h₄ ready c.choose-fifth.result h₅ c.choose-fifth.ensures.exact in
+    let n = c.name_each.result in
+    let sets = set ∷ set ∷ set ∷ set ∷ set ∷ [] in
+    let names = c.name_each.new.names in
+    let five : n ≡ 5 = omega (arith, c.name_each.ensures.count) in
+    let ran = ran_weaker WholeHold HeldQueueStep (λ x r o y w. own x r o y w.1) c.new-rule.result (take n sets) (take n names) c.name_each.new.rule c.name_each.ensures.ran in
+    let all : take n names ≡ names = take_all n names (omega arith) in
+    let whole = subst (λ (k : ℕ). Ran HeldQueueStep c.new-rule.result (take k sets) (take n names) c.name_each.new.rule) five ran in
     record {
-      names = held_queue_example ready two h₀ new c.choose-first.result c.choose-second.result c.choose-third.result c.choose-fourth.result c.choose-fifth.result
-          (h₁, s₁, (h₂, s₂, (h₃, s₃, (h₄, s₄, (h₅, s₅, tt)))));
+      names = ran_example set two c.new-rule.result new names c.name_each.new.rule (subst (λ (ns : List (Option ℕ)). Ran HeldQueueStep c.new-rule.result sets ns c.name_each.new.rule) all whole);
       always = held_queue_example;
     }

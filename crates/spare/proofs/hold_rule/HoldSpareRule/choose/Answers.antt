@@ -1,16 +1,14 @@
-use Rattle.std.proofs.Common.{arith, rules}
+use Rattle.std.proofs.Common.{arith}
 use Rattle.spare.specs.Falls.{held_falls, held_same}
 use Rattle.spare.proofs.hold_rule.HoldSpareRule.choose.Goals as goal
 
-pub returns : goal.returns
-returns g c =
-    let e = c.in-Some-choose.ensures in
-    record {
-      chosen = record {
-        known = e.chosen.known;
-        member = e.chosen.member;
-        nearer = λ b r n. held_falls c.args.self.now.repeats (g.R.SpareRule.distance c.args.self.now.below b) (g.R.SpareRule.distance c.choose.new.self b) c.args.self.now.left _ (e.chosen.nearer b r n) (omega arith);
-        steady = held_same c.args.self.now.repeats (g.R.SpareRule.patience c.choose.new.self) (g.R.SpareRule.patience c.args.self.now.below) e.chosen.steady;
-      };
-      exact = search rules;
-    }
+pub returns-clause-chosen : goal.returns-clause-chosen
+returns-clause-chosen g c =
+    let h = c.self.inside in
+    let e = c.in_ok-activity.ensures.chosen in
+    rw (← c.self.view_is) (record {
+      known = e.known;
+      member = e.member;
+      nearer = λ b r n. held_falls h.repeats (g.R.SpareRule.distance h.below b) (g.R.SpareRule.distance c.choose.new.self b) h.left _ (e.nearer b r n) (omega arith);
+      steady = held_same h.repeats (g.R.SpareRule.patience c.choose.new.self) (g.R.SpareRule.patience h.below) e.steady;
+    })
