@@ -7,4 +7,3 @@ mod entries;
 pub mod fault;
 mod heading;
 pub mod load;
-pub mod words;
