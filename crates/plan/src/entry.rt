@@ -3,7 +3,7 @@ ghost use Rattle.std.specs.Prelude.{◌≡◌, ℕ, ◌%◌, ◌^◌, ◌≤◌,
 ghost use Rattle.plan.specs.Entries.{InRange, Clashing, covers};
 
 /// The activity that owns `length` ticks from `offset` on, in every frame that is `path` modulo 2 to the `depth`.
-#[derive(Clone, Copy, PartialEq, Eq, Debug)]
+#[derive(Clone, Copy, PartialEq, Eq, Default, Debug)]
 pub struct Entry {
     pub activity: u8,
     pub depth: u8,
