@@ -6,6 +6,16 @@ ghost use Rattle.sheet.specs.Told.{HasBlocks, AllChecked, FirstUnchecked};
 // How many bytes a block has.
 pub(crate) const BLOCK_SIZE: usize = 512;
 
+// How many bytes come before its check.
+pub(crate) const CHECKED_SIZE: usize = 508;
+
+// How many bytes come before its reservations or entries.
+pub(crate) const HEAD_SIZE: usize = 8;
+
+// How many blocks a sheet has at most.
+const MOST_BLOCKS: usize = 3;
+
+// The bytes of one block.
 pub(crate) type Block = [u8; BLOCK_SIZE];
 
 // The bytes of one, two or three whole blocks.
@@ -48,12 +58,10 @@ impl<'a> Blocks<'a> {
     pub(crate) fn new(bytes: &'a [u8]) -> Option<Blocks<'a>>
         ensures { MatchOption result ((n : ℕ) → HasBlocks bytes.now n → ⊥) (λ b. b.bytes.now ≡ bytes.now) }
     {
-        let count = match bytes.len() {
-            512 => 1,
-            1024 => 2,
-            1536 => 3,
-            _ => return None,
-        };
+        let count = bytes.len() / BLOCK_SIZE;
+        if bytes.len() % BLOCK_SIZE != 0 || count == 0 || count > MOST_BLOCKS {
+            return None;
+        }
         Some(Blocks { bytes, count })
     }
 
@@ -64,6 +72,7 @@ impl<'a> Blocks<'a> {
         self.count
     }
 
+    // The blocks one by one.
     pub(crate) fn as_slice(&self) -> &'a [Block]
         ensures count { length result.now ≡ self.now.count }
         ensures each { (k : ℕ) → k < self.now.count → slice_index_or result.now k [] ≡ block self.now.bytes.now k }

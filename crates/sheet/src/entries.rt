@@ -4,25 +4,28 @@ ghost use Rattle.sheet.specs.Format.{EntryAt, IsEntryBlock, blocks_for, in_block
 ghost use Rattle.sheet.specs.Read.{EntriesRead};
 ghost use Rattle.sheet.specs.Told.{AllBlocks, FirstBroken};
 
-use crate::blocks::{Block, Blocks, are_zero};
+use crate::blocks::{Block, Blocks, CHECKED_SIZE, HEAD_SIZE, are_zero};
 use arrayvec::ArrayVec;
 use plan::entry::Entry;
+use plan::fill::MOST_ENTRIES;
 
 // The kind of an entry block.
 const ENTRY_BLOCK: u8 = 2;
 
 // How many entries stand in a full block.
-const FULL: usize = 60;
+pub(crate) const BLOCK_ENTRIES: usize = 60;
 
 // How many bytes an entry has.
-const ENTRY_SIZE: usize = 8;
+pub(crate) const ENTRY_SIZE: usize = 8;
 
 // How many of the entries stand in this block.
 fn entries_in(entries: usize, number: usize) -> usize
     requires { (1 ≤ number) × (number ≤ 3) }
     ensures { result ≡ in_block entries number }
 {
-    entries.saturating_sub(FULL * (number - 1)).min(FULL)
+    entries
+        .saturating_sub(BLOCK_ENTRIES * (number - 1))
+        .min(BLOCK_ENTRIES)
 }
 
 // Whether this is the entry block of this number with so many entries.
@@ -39,7 +42,9 @@ fn is_entry_block(block: &Block, number: usize, count: usize) -> bool
     {
         return false;
     }
-    are_zero(&rest[..5]) && are_zero(&rest[5 + ENTRY_SIZE * count..505])
+    // The rest begins at byte 3.
+    are_zero(&rest[..HEAD_SIZE - 3])
+        && are_zero(&rest[HEAD_SIZE - 3 + ENTRY_SIZE * count..CHECKED_SIZE - 3])
 }
 
 // The number of the first entry block that is not as it should be.
@@ -78,13 +83,14 @@ fn entry_in(bytes: &[u8; ENTRY_SIZE]) -> Entry
 }
 
 // The entries of a sheet that has so many.
-pub(crate) fn read_entries(blocks: &Blocks, count: usize) -> ArrayVec<Entry, 120>
+pub(crate) fn read_entries(blocks: &Blocks, count: usize) -> ArrayVec<Entry, MOST_ENTRIES>
     requires { blocks.now.count ≡ blocks_for count }
     ensures { EntriesRead blocks.now.bytes.now count result.items }
 {
     let blocks = blocks.as_slice();
     let mut entries = ArrayVec::new();
     for number in 1..blocks.len() {
+        // The first chunk is the block's head.
         let (chunks, _) = blocks[number].as_chunks::<ENTRY_SIZE>();
         for chunk in &chunks[1..1 + entries_in(count, number)] {
             entries.push(entry_in(chunk));

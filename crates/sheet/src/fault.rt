@@ -4,6 +4,9 @@ ghost use Rattle.sheet.specs.declared.fault.SheetFault.TheVariants.{Plan, Check}
 ghost use Rattle.sheet.specs.Faults.{layer_of, number_of, place_of, plan_place, check_place};
 ghost use Rattle.sheet.specs.Format.{block_place, entry_place, reservation_place};
 
+use crate::blocks::{BLOCK_SIZE, HEAD_SIZE};
+use crate::entries::{BLOCK_ENTRIES, ENTRY_SIZE};
+use crate::heading::RESERVATION_SIZE;
 use plan::fault::PlanFault;
 use reservation::fault::CheckFault;
 use std::fmt;
@@ -56,21 +59,25 @@ pub enum SheetFault {
 fn block_place(block: usize) -> usize
     ensures { result ≡ min (block_place block) 18446744073709551615 }
 {
-    block.saturating_mul(512)
+    block.saturating_mul(BLOCK_SIZE)
 }
 
 // The byte where an entry begins.
-pub(crate) fn entry_place(index: usize) -> usize
+fn entry_place(index: usize) -> usize
     ensures { result ≡ min (entry_place index) 18446744073709551615 }
 {
-    block_place(1 + index / 60).saturating_add(8 + 8 * (index % 60))
+    block_place(1 + index / BLOCK_ENTRIES).saturating_add(
+        HEAD_SIZE + ENTRY_SIZE * (index % BLOCK_ENTRIES),
+    )
 }
 
 // The byte where a reservation begins.
 fn reservation_place(index: usize) -> usize
     ensures { result ≡ min (reservation_place index) 18446744073709551615 }
 {
-    index.saturating_mul(6).saturating_add(8)
+    index
+        .saturating_mul(RESERVATION_SIZE)
+        .saturating_add(HEAD_SIZE)
 }
 
 fn plan_place(fault: &PlanFault) -> usize

@@ -4,7 +4,8 @@ ghost use Rattle.sheet.specs.Format.{ReservationAt, block, blocks_for, byte};
 ghost use Rattle.sheet.specs.Read.{IsMarked, ListRead, HeadingRead};
 ghost use Rattle.sheet.specs.Told.{Headed};
 
-use crate::blocks::{Blocks, are_zero};
+use crate::blocks::{Blocks, CHECKED_SIZE, HEAD_SIZE, are_zero};
+use crate::entries::BLOCK_ENTRIES;
 use arrayvec::ArrayVec;
 use reservation::check::MOST_RESERVATIONS;
 use reservation::reservation::Reservation;
@@ -13,7 +14,7 @@ use reservation::reservation::Reservation;
 const HEADING: u8 = 1;
 
 // How many bytes a reservation has.
-const RESERVATION_SIZE: usize = 6;
+pub(crate) const RESERVATION_SIZE: usize = 6;
 
 // What a heading says.
 #[derive(Drop)]
@@ -21,7 +22,7 @@ pub(crate) struct HeadingFields {
     pub(crate) base: u16,
     pub(crate) depth: u8,
     pub(crate) entries: usize,
-    pub(crate) reservations: ArrayVec<Reservation, 16>,
+    pub(crate) reservations: ArrayVec<Reservation, MOST_RESERVATIONS>,
 }
 
 // How many blocks a sheet of so many entries has.
@@ -29,7 +30,7 @@ fn blocks_for(entries: usize) -> usize
     requires { entries ≤ 255 }
     ensures { result ≡ blocks_for entries }
 {
-    1 + entries.div_ceil(60)
+    1 + entries.div_ceil(BLOCK_ENTRIES)
 }
 
 // The reservation in these bytes, where the second of them is 0.
@@ -55,7 +56,7 @@ fn reservation_in(bytes: &[u8; RESERVATION_SIZE]) -> Option<Reservation>
 }
 
 // So many reservations at the front of the bytes.
-fn read_reservations(bytes: &[u8], count: usize) -> Option<ArrayVec<Reservation, 16>>
+fn read_reservations(bytes: &[u8], count: usize) -> Option<ArrayVec<Reservation, MOST_RESERVATIONS>>
     requires { (count ≤ 16) × (6 * count ≤ length bytes.now) }
     ensures { MatchOption result (IsMarked bytes.now count) (λ v. ListRead bytes.now count v.items) }
 {
@@ -93,7 +94,7 @@ pub(crate) fn read_heading(blocks: &Blocks) -> Option<HeadingFields>
         return None;
     }
     let reservations = read_reservations(rest, reserved)?;
-    if !are_zero(&rest[RESERVATION_SIZE * reserved..500]) {
+    if !are_zero(&rest[RESERVATION_SIZE * reserved..CHECKED_SIZE - HEAD_SIZE]) {
         return None;
     }
     Some(HeadingFields {

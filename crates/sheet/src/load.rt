@@ -10,15 +10,16 @@ use crate::fault::SheetFault;
 use crate::heading::{HeadingFields, read_heading};
 use arrayvec::ArrayVec;
 use plan::entry::Entry;
+use plan::fill::MOST_ENTRIES;
 use plan::plan::Plan;
-use reservation::check::check;
+use reservation::check::{MOST_RESERVATIONS, check};
 use reservation::reservation::Reservation;
 
 // What a sheet says.
 #[derive(Drop)]
 struct Contents {
     heading: HeadingFields,
-    entries: ArrayVec<Entry, 120>,
+    entries: ArrayVec<Entry, MOST_ENTRIES>,
 }
 
 // What the bytes say, where they are a sheet. The tests come in the order of the refusals' numbers.
@@ -41,7 +42,7 @@ fn read(sheet: &[u8]) -> Result<Contents, SheetFault>
 #[derive(Drop)]
 struct Passed {
     plan: Plan,
-    reservations: ArrayVec<Reservation, 16>,
+    reservations: ArrayVec<Reservation, MOST_RESERVATIONS>,
 }
 
 // What the bytes say, where they are a sheet whose reservations pass on its plan. The plan is filled from a fresh one.
