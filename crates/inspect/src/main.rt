@@ -39,8 +39,7 @@ fn print_reservations(rt: &HostRuntime, list: &[Reservation]) -> anyhow::Result<
         activity,
         ticks,
         period,
-    } in list
-    {
+    } in list {
         println!(rt; "activity {activity} has {ticks} ticks in every {period}")?;
     }
     println!(rt; "every window is served")?;
