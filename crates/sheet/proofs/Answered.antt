@@ -1,7 +1,6 @@
 -- What loading says with each of its answers.
-use Rattle.std.proofs.Common.{◌≡◌, ℕ, ◌+◌, ◌-◌, ◌*◌, ◌^◌, ◌<◌, ◌≤◌, ◌⊎◌, inl, inr, List, ◌++◌, length, take, drop, replicate, Ok, Err, vec_items, Result, sym, refl, ap, ◌∙◌, subst, ⊎_elim, arith}
-use Rattle.std.proofs.lemmas.Bool.{cases_order}
-use Rattle.std.proofs.lemmas.List.{length-append, length-drop, length-replicate, get_or-append_right, get_or-drop, get_or-replicate, get_or_past}
+use Rattle.std.proofs.Common.{◌≡◌, ℕ, zero, suc, ◌+◌, ◌-◌, ◌*◌, ◌^◌, ◌≤◌, List, ◌++◌, length, get_or, take, drop, replicate, Ok, Err, vec_items, Result, sym, refl, ap, ◌∙◌, subst, arith}
+use Rattle.std.proofs.lemmas.List.{length-append, length-drop, length-replicate, get_or-append_right, get_or-drop}
 use Rattle.std.proofs.Math.Seq.{take-append_seam}
 use Rattle.plan.specs.declared.entry.Entry.{Entry}
 use Rattle.plan.specs.declared.fault.PlanFault.{PlanFault}
@@ -99,11 +98,13 @@ module _ (rs : List Reservation) (n : ℕ) (d : Reservation) (many : length rs �
   listed_others k low =
       get_or-append_right rs (drop n (replicate 16 d)) n k blank many low ∙ get_or-drop n (replicate 16 d) (k - n) blank ∙ all_blank (n + (k - n))
     where
-      below_or_past : (j : ℕ) → (j < 16) ⊎ (16 ≤ j)
-      below_or_past j = ⊎_elim (λ e. inr (omega arith)) (λ o. ⊎_elim (λ l. inl l) (λ g. inr (omega arith)) o) (cases_order j 16)
+      each : (m j : ℕ) → get_or (replicate m d) j d ≡ d
+      each zero j = refl
+      each (suc m) zero = refl
+      each (suc m) (suc j) = each m j
 
       all_blank : (j : ℕ) → at (replicate 16 d) j ≡ blank
-      all_blank j = ⊎_elim (λ l. get_or-replicate 16 j d blank l ∙ d_blank) (λ g. get_or_past (replicate 16 d) j blank (simp length-replicate g)) (below_or_past j)
+      all_blank j = ap (λ e. get_or (replicate 16 d) j e) (sym d_blank) ∙ each 16 j ∙ d_blank
 
 -- the list that is left, with what has passed in it
 pub held_list : (s : List ℕ) (p : Passed) (n : ℕ) (rs : List Reservation) (d : Reservation) → length p.reservations.items ≡ n → rs ≡ p.reservations.items → PassedRead s p → (d.activity ≡ 0) × ((d.ticks ≡ 0) × (d.period ≡ 0)) → Holding s n p.plan (rs ++ drop n (replicate 16 d))
