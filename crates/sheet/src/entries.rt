@@ -82,7 +82,8 @@ fn entry_in(bytes: &[u8; ENTRY_SIZE]) -> Entry
     }
 }
 
-// The entries of a sheet that has so many.
+// The entries of a sheet that has so many. This is no one function with the reader of reservations: an entry is never
+// refused, and entries go on from block to block.
 pub(crate) fn read_entries(blocks: &Blocks, count: usize) -> ArrayVec<Entry, MOST_ENTRIES>
     requires { blocks.now.count ≡ blocks_for count }
     ensures { EntriesRead blocks.now.bytes.now count result.items }

@@ -147,6 +147,7 @@ impl SheetFault {
     }
 }
 
+// These two by hand: what `?` gives has to be known where a sheet is loaded, and a derived `From` says nothing of it.
 impl From<PlanFault> for SheetFault {
     ghost from_gives = { λ f r. r ≡ Plan f };
 

@@ -72,6 +72,7 @@ pub fn load(
     ensures never { Never result }
     ensures after { Loaded sheet.now plan.old plan.new list.old list.new result }
 {
+    // A list of 16 places with a count beside it is the form that callers ask for.
     let passed = examine(sheet, plan.fresh())?;
     let count = passed.reservations.len();
     *plan = passed.plan;
