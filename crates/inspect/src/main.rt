@@ -35,12 +35,11 @@ fn print_bars<T: Timetable>(rt: &HostRuntime, timetable: &T) -> anyhow::Result<(
 }
 
 fn print_reservations(rt: &HostRuntime, list: &[Reservation]) -> anyhow::Result<()> {
-    for reservation in list {
-        let Reservation {
-            activity,
-            ticks,
-            period,
-        } = *reservation;
+    for Reservation {
+        activity,
+        ticks,
+        period,
+    } in list {
         println!(rt; "activity {activity} has {ticks} ticks in every {period}")?;
     }
     println!(rt; "every window is served")?;
@@ -48,9 +47,9 @@ fn print_reservations(rt: &HostRuntime, list: &[Reservation]) -> anyhow::Result<
 }
 
 fn print_refusal(rt: &HostRuntime, fault: &SheetFault) -> anyhow::Result<()> {
-    let Some(number) = fault.number() else {
-        return Err(anyhow!("no memory for the plan"));
-    };
+    let number = fault
+        .number()
+        .ok_or_else(|| anyhow!("no memory for the plan"))?;
     let layer = fault.layer();
     let place = fault.place();
     println!(rt; "{layer} {number} {place}")?;
@@ -61,11 +60,7 @@ fn print_refusal(rt: &HostRuntime, fault: &SheetFault) -> anyhow::Result<()> {
 fn run(rt: &HostRuntime) -> anyhow::Result<()> {
     let bytes = fs::read(rt, "plan.bin")?;
     let mut plan = Plan::empty(rt.alloc());
-    let mut list = [Reservation {
-        activity: 0,
-        ticks: 0,
-        period: 0,
-    }; 16];
+    let mut list = [Reservation::default(); 16];
     match load(bytes.as_slice(), &mut plan, &mut list) {
         Ok(count) => {
             println!(rt; "ok {count}")?;

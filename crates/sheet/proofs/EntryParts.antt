@@ -1,12 +1,13 @@
 -- The steps of reading entries and entry blocks, and why a block that is refused is none.
-use Rattle.std.proofs.Common.{◌≡◌, ℕ, ◌+◌, ◌-◌, ◌*◌, ◌<◌, ◌≤◌, Bool, true, false, ◌≢◌, List, length, set, MatchBool, sym, refl, ◌∙◌, subst, ⊎_elim, arith}
-use Rattle.std.proofs.lemmas.List.{length-set, get_or-set_same, get_or-set_other}
-use Rattle.std.proofs.lemmas.Bool.{cases_order}
+use Rattle.std.proofs.Common.{◌≡◌, ℕ, ◌+◌, ◌-◌, ◌*◌, ◌/◌, ◌<◌, ◌≤◌, Bool, true, false, List, [], ◌∷◌, ◌++◌, length, get_or, take, drop, Option, None, Some, MatchBool, MatchOption, sym, refl, ap, ◌∙◌, subst, arith}
+use Rattle.std.proofs.lemmas.List.{length-append, length-take, get_or-take, get_or-drop}
+use Rattle.std.specs.Simd.{first_chunks}
 use Rattle.plan.specs.declared.entry.Entry.{Entry}
-use Rattle.plan.specs.Entries.{at, blank}
-use Rattle.sheet.specs.Format.{byte, Zero, EntryAt, IsEntryBlock, entry_place}
+use Rattle.plan.specs.Entries.{blank}
+use Rattle.sheet.specs.Format.{byte, two, block, Zero, EntryAt, IsEntryBlock, in_block, entry_place}
 use Rattle.sheet.specs.Read.{EntriesRead}
-use Rattle.sheet.proofs.Bytes.{behind, behind_at}
+use Rattle.sheet.specs.Told.{AllBlocks, FirstBroken}
+use Rattle.sheet.proofs.Bytes.{behind, behind_at, byte_of_chunk, byte_of_block, each_more}
 
 -- the rest of an entry block is what stands from byte 3 on
 module _ (b : List ℕ) (number count : ℕ) where
@@ -34,23 +35,60 @@ pub when_like : (r : Bool) (P Q : Type 0) → (P → Q) → (Q → P) → MatchB
 when_like true P Q f g w = f w
 when_like false P Q f g w = λ q. w (g q)
 
--- one more entry
-pub entries_more : (s : List ℕ) (k : ℕ) (es : List Entry) (e : Entry) → k < 120 → EntriesRead s k es → EntryAt s (entry_place k) e → EntriesRead s (k + 1) (set es k e)
-entries_more s k es e h w here =
+-- the first entry block that is not as it should be, among the blocks of a sheet
+pub broken_among : (s : List ℕ) (entries n : ℕ) (bs : List (List ℕ)) → length bs ≡ n → ((k : ℕ) → k < n → get_or bs k [] ≡ block s k) → (r : Option ℕ) → MatchOption r ((k : ℕ) → 1 ≤ k → k < length bs → IsEntryBlock (get_or bs k []) k (in_block entries k)) (λ i. (1 ≤ i) × (i < length bs) × (IsEntryBlock (get_or bs i []) i (in_block entries i) → ⊥) × ((k : ℕ) → 1 ≤ k → k < i → IsEntryBlock (get_or bs k []) k (in_block entries k))) → MatchOption r (AllBlocks s entries n) (FirstBroken s entries n)
+broken_among s entries n bs long each None w = λ k low high. subst (λ b. IsEntryBlock b k (in_block entries k)) (each k high) (w k low (omega arith))
+broken_among s entries n bs long each (Some i) w =
     record {
-      places = length-set es k e ∙ w.places;
-      each = λ j l. ⊎_elim (λ q. at_same j q) (λ o. ⊎_elim (λ b. at_other j (omega arith) (w.each j b)) (λ a. absurd (past j l a)) o) (cases_order j k);
+      least = w.0;
+      within = omega (arith, w.1);
+      before = λ k low high. subst (λ b. IsEntryBlock b k (in_block entries k)) (each k (omega (arith, w.1))) (w.3 k low high);
+      wrong = λ h. w.2 (subst (λ b. IsEntryBlock b i (in_block entries i)) (sym (each i (omega (arith, w.1)))) h);
+    }
+
+-- the same eight bytes elsewhere
+moved : (t s : List ℕ) (q : ℕ) (e : Entry) → ((i j : ℕ) → i < 8 → j ≡ q + i → byte t i ≡ byte s j) → EntryAt t 0 e → EntryAt s q e
+moved t s q e same w =
+    record {
+      activity = w.activity ∙ same 0 q (omega arith) (omega arith);
+      depth = w.depth ∙ same 1 (q + 1) (omega arith) refl;
+      path = two_moved 2 (omega arith) _ w.path;
+      offset = two_moved 4 (omega arith) _ w.offset;
+      length = two_moved 6 (omega arith) _ w.length;
     }
   where
-    past : (j : ℕ) → j < k + 1 → k < j → ⊥
-    past j l a = omega arith
+    two_moved : (i : ℕ) → i < 7 → (n : ℕ) → n ≡ two t i → n ≡ two s (q + i)
+    two_moved i l n e =
+        let x = same i (q + i) (omega arith) refl in
+        let y = same (i + 1) (q + i + 1) (omega arith) (omega arith) in
+        omega arith
 
-    at_same : (j : ℕ) → j ≡ k → EntryAt s (entry_place j) (at (set es k e) j)
-    at_same j q =
-        let size = w.places in
-        let inside : k < length es = omega arith in
-        subst (λ i. EntryAt s (entry_place i) (at (set es k e) i)) (sym q)
-        (subst (EntryAt s (entry_place k)) (sym (get_or-set_same es k e blank inside)) here)
+-- an entry in a chunk of a block
+module _ (s b : List ℕ) (cs : List (List ℕ)) (number m i : ℕ) (is : b ≡ block s number) (long : length b ≡ 512) (cut : cs ≡ first_chunks 8 (length b / 8) b) (first : 1 ≤ number) (few : m ≤ 60) where
+  abbrev chunks : List (List ℕ)
+  chunks = take (1 + m - 1) (drop 1 cs)
 
-    at_other : (j : ℕ) → j ≢ k → EntryAt s (entry_place j) (at es j) → EntryAt s (entry_place j) (at (set es k e) j)
-    at_other j ne v = subst (EntryAt s (entry_place j)) (sym (get_or-set_other es k j e blank ne)) v
+  abbrev chunk : List ℕ
+  chunk = get_or chunks i []
+
+  -- one more entry
+  pub entries_more : (es : List Entry) (e : Entry) → i < length chunks → EntriesRead s (60 * (number - 1) + i) es → EntryAt chunk 0 e → EntriesRead s (60 * (number - 1) + (i + 1)) (es ++ e ∷ [])
+  entries_more es e turn w here =
+      let many = w.many in
+      record {
+        many = simp length-append (omega arith);
+        each = λ j l. each_more (λ j. EntryAt s (entry_place j)) (60 * (number - 1) + i) es e blank w.many w.each (moved chunk s (entry_place (60 * (number - 1) + i)) e at_entry here) j (omega arith);
+      }
+    where
+      low : i < m
+      low = let e = length-take (1 + m - 1) (drop 1 cs) in omega arith
+
+      chunk_is : chunk ≡ get_or (first_chunks 8 (length b / 8) b) (1 + i) []
+      chunk_is = get_or-take _ (drop 1 cs) i [] (let l = low in omega arith) ∙ get_or-drop 1 cs i [] ∙ ap (λ x. get_or x (1 + i) []) cut
+
+      at_entry : (j k : ℕ) → j < 8 → k ≡ entry_place (60 * (number - 1) + i) + j → byte chunk j ≡ byte s k
+      at_entry j k small e =
+          let l = low in
+          byte_of_chunk 8 (length b / 8) b (1 + i) chunk chunk_is (omega arith) j (8 * (1 + i) + j) small refl
+          ∙ ap (λ x. byte x (8 * (1 + i) + j)) is
+          ∙ byte_of_block s number (8 * (1 + i) + j) k (omega arith) (omega arith)

@@ -1,7 +1,6 @@
 -- Loading has one answer: what each says of the bytes shuts the others out.
-use Rattle.std.proofs.Common.{◌≡◌, ℕ, ◌*◌, ◌^◌, ◌<◌, List, length, Some, None, Ok, Err, Result, sym, refl, ap, ◌∙◌, subst, ⊎_elim, arith}
+use Rattle.std.proofs.Common.{◌≡◌, ℕ, ◌*◌, ◌^◌, ◌<◌, List, length, Some, None, Ok, Err, Result, sym, refl, ap, ◌∙◌, subst, arith}
 use Rattle.std.proofs.lemmas.List.{ext_get_or}
-use Rattle.std.proofs.lemmas.Bool.{cases_order}
 use Rattle.plan.specs.declared.entry.Entry.{Entry}
 use Rattle.plan.specs.declared.fault.PlanFault.{PlanFault}
 use Rattle.plan.specs.declared.fault.PlanFault.TheVariants.{Dimensions, TooManyEntries, OutOfRange, Clash, Memory}
@@ -21,7 +20,7 @@ use Rattle.sheet.specs.Told.{HasBlocks, AllChecked, FirstUnchecked, Headed, AllB
 
 -- two numbers of which neither is below the other
 neither : (i j : ℕ) → (i < j → ⊥) → (j < i → ⊥) → i ≡ j
-neither i j a b = ⊎_elim (λ e. e) (λ h. ⊎_elim (λ l. absurd (a l)) (λ l. absurd (b l)) h) (cases_order i j)
+neither i j a b = omega (arith, a, b)
 
 -- the bytes of a reservation or an entry are those of no other
 reserve : ℕ → ℕ → ℕ → Reservation

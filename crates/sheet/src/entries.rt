@@ -4,78 +4,98 @@ ghost use Rattle.sheet.specs.Format.{EntryAt, IsEntryBlock, blocks_for, in_block
 ghost use Rattle.sheet.specs.Read.{EntriesRead};
 ghost use Rattle.sheet.specs.Told.{AllBlocks, FirstBroken};
 
-use crate::blocks::{are_zero, block_at, two_bytes};
-use crate::fault::entry_place;
+use crate::blocks::{Block, Blocks, CHECKED_SIZE, HEAD_SIZE, are_zero};
+use arrayvec::ArrayVec;
 use plan::entry::Entry;
+use plan::fill::MOST_ENTRIES;
+
+// The kind of an entry block.
+const ENTRY_BLOCK: u8 = 2;
+
+// How many entries stand in a full block.
+pub(crate) const BLOCK_ENTRIES: usize = 60;
+
+// How many bytes an entry has.
+pub(crate) const ENTRY_SIZE: usize = 8;
 
 // How many of the entries stand in this block.
 fn entries_in(entries: usize, number: usize) -> usize
     requires { (1 ≤ number) × (number ≤ 3) }
     ensures { result ≡ in_block entries number }
 {
-    entries.saturating_sub(60 * (number - 1)).min(60)
+    entries
+        .saturating_sub(BLOCK_ENTRIES * (number - 1))
+        .min(BLOCK_ENTRIES)
 }
 
 // Whether this is the entry block of this number with so many entries.
-fn is_entry_block(block: &[u8], number: usize, count: usize) -> bool
-    requires { (length block.now ≡ 512) × (count ≤ 60) }
+fn is_entry_block(block: &Block, number: usize, count: usize) -> bool
+    requires { count ≤ 60 }
     ensures { MatchBool result (IsEntryBlock block.now number count) (IsEntryBlock block.now number count → ⊥) }
 {
-    let [kind, its_number, its_count, rest @ ..] = block else {
+    let [kind, its_number, its_count, rest @ ..] = &block[..] else {
         return false;
     };
-    if *kind != 2 || usize::from(*its_number) != number || usize::from(*its_count) != count {
+    if *kind != ENTRY_BLOCK
+        || usize::from(*its_number) != number
+        || usize::from(*its_count) != count
+    {
         return false;
     }
-    if !are_zero(rest, 0, 5) {
-        return false;
-    }
-    are_zero(rest, 5 + 8 * count, 505)
+    // The rest begins at byte 3.
+    are_zero(&rest[..HEAD_SIZE - 3])
+        && are_zero(&rest[HEAD_SIZE - 3 + ENTRY_SIZE * count..CHECKED_SIZE - 3])
 }
 
 // The number of the first entry block that is not as it should be.
-pub(crate) fn first_broken(sheet: &[u8], blocks: usize, entries: usize) -> Option<usize>
-    requires { (blocks ≤ 3) × (length sheet.now ≡ 512 * blocks) }
-    ensures { MatchOption result (AllBlocks sheet.now entries blocks) (FirstBroken sheet.now entries blocks) }
+pub(crate) fn first_broken(blocks: &Blocks, entries: usize) -> Option<usize>
+    ensures { MatchOption result (AllBlocks blocks.now.bytes.now entries blocks.now.count) (FirstBroken blocks.now.bytes.now entries blocks.now.count) }
 {
-    for number in 1..blocks {
-        let block = block_at(sheet, number);
-        if !is_entry_block(block, number, entries_in(entries, number)) {
-            return Some(number);
-        }
-    }
-    None
+    let blocks = blocks.as_slice();
+    (1..blocks.len()).find(|&number| !is_entry_block(
+        &blocks[number],
+        number,
+        entries_in(entries, number),
+    ))
 }
 
-// The entry that begins at this place.
-fn entry_at(sheet: &[u8], place: usize) -> Entry
-    requires { place + 8 ≤ length sheet.now }
-    ensures { EntryAt sheet.now place result }
+// The entry in these bytes.
+fn entry_in(bytes: &[u8; ENTRY_SIZE]) -> Entry
+    ensures { EntryAt bytes.now 0 result }
 {
+    let [
+        activity,
+        depth,
+        path_low,
+        path_high,
+        offset_low,
+        offset_high,
+        length_low,
+        length_high,
+    ] = *bytes;
     Entry {
-        activity: sheet[place],
-        depth: sheet[place + 1],
-        path: two_bytes(sheet, place + 2),
-        offset: two_bytes(sheet, place + 4),
-        length: two_bytes(sheet, place + 6),
+        activity,
+        depth,
+        path: u16::from_le_bytes([path_low, path_high]),
+        offset: u16::from_le_bytes([offset_low, offset_high]),
+        length: u16::from_le_bytes([length_low, length_high]),
     }
 }
 
-// The entries of a sheet that has so many, and blank ones after them.
-pub(crate) fn read_entries(sheet: &[u8], count: usize) -> [Entry; 120]
-    requires { (count ≤ 120) × (length sheet.now ≡ 512 * blocks_for count) }
-    ensures { EntriesRead sheet.now count result }
+// The entries of a sheet that has so many. This is no one function with the reader of reservations: an entry is never
+// refused, and entries go on from block to block.
+pub(crate) fn read_entries(blocks: &Blocks, count: usize) -> ArrayVec<Entry, MOST_ENTRIES>
+    requires { blocks.now.count ≡ blocks_for count }
+    ensures { EntriesRead blocks.now.bytes.now count result.items }
 {
-    let blank = Entry {
-        activity: 0,
-        depth: 0,
-        path: 0,
-        offset: 0,
-        length: 0,
-    };
-    let mut entries = [blank; 120];
-    for k in 0..count {
-        entries[k] = entry_at(sheet, entry_place(k));
+    let blocks = blocks.as_slice();
+    let mut entries = ArrayVec::new();
+    for number in 1..blocks.len() {
+        // The first chunk is the block's head.
+        let (chunks, _) = blocks[number].as_chunks::<ENTRY_SIZE>();
+        for chunk in &chunks[1..1 + entries_in(count, number)] {
+            entries.push(entry_in(chunk));
+        }
     }
     entries
 }

@@ -4,8 +4,13 @@ ghost use Rattle.sheet.specs.declared.fault.SheetFault.TheVariants.{Plan, Check}
 ghost use Rattle.sheet.specs.Faults.{layer_of, number_of, place_of, plan_place, check_place};
 ghost use Rattle.sheet.specs.Format.{block_place, entry_place, reservation_place};
 
+use crate::blocks::{BLOCK_SIZE, HEAD_SIZE};
+use crate::entries::{BLOCK_ENTRIES, ENTRY_SIZE};
+use crate::heading::RESERVATION_SIZE;
 use plan::fault::PlanFault;
 use reservation::fault::CheckFault;
+use std::fmt;
+use thiserror::Error;
 
 /// Which layer refuses: the sheet's bytes, the plan in them, or the check of the reservations on that plan.
 #[derive(Clone, Copy, PartialEq, Eq, Debug)]
@@ -15,20 +20,38 @@ pub enum Layer {
     Check,
 }
 
+// By hand, since a layer is no error.
+impl fmt::Display for Layer {
+    fn fmt<W: fmt::Write>(&self, f: &mut fmt::Formatter<W>) -> fmt::Result {
+        let word = match self {
+            Layer::Sheet => "sheet",
+            Layer::Plan => "plan",
+            Layer::Check => "check",
+        };
+        f.write_str(word)
+    }
+}
+
 /// A refusal of a sheet, with what it tells besides its number. Blocks count from 0.
-#[derive(Clone, Copy, PartialEq, Eq, Debug)]
+#[derive(Clone, Copy, PartialEq, Eq, Debug, Error)]
 pub enum SheetFault {
     /// 31: the sheet is not 512, 1,024 or 1,536 bytes.
+    #[error("31: the sheet is not 512, 1,024 or 1,536 bytes")]
     Size,
     /// 32: the check of this block, the first such one, is wrong.
+    #[error("32: the check of block {block} is wrong")]
     BlockCheck { block: usize },
     /// 33: the first block is no heading, or its entries do not fit the number of blocks.
+    #[error("33: block 0 is no heading of such a sheet")]
     Heading,
     /// 34: this block, the first such one, is not the entry block that stands in its place.
+    #[error("34: block {block} is not its entry block")]
     EntryBlock { block: usize },
     /// The sheet says a plan that is refused.
+    #[error("{0}")]
     Plan(PlanFault),
     /// The sheet says reservations that do not pass on its plan.
+    #[error("{0}")]
     Check(CheckFault),
 }
 
@@ -36,21 +59,25 @@ pub enum SheetFault {
 fn block_place(block: usize) -> usize
     ensures { result ≡ min (block_place block) 18446744073709551615 }
 {
-    block.saturating_mul(512)
+    block.saturating_mul(BLOCK_SIZE)
 }
 
 // The byte where an entry begins.
-pub(crate) fn entry_place(index: usize) -> usize
+fn entry_place(index: usize) -> usize
     ensures { result ≡ min (entry_place index) 18446744073709551615 }
 {
-    block_place(1 + index / 60).saturating_add(8 + 8 * (index % 60))
+    block_place(1 + index / BLOCK_ENTRIES).saturating_add(
+        HEAD_SIZE + ENTRY_SIZE * (index % BLOCK_ENTRIES),
+    )
 }
 
 // The byte where a reservation begins.
 fn reservation_place(index: usize) -> usize
     ensures { result ≡ min (reservation_place index) 18446744073709551615 }
 {
-    index.saturating_mul(6).saturating_add(8)
+    index
+        .saturating_mul(RESERVATION_SIZE)
+        .saturating_add(HEAD_SIZE)
 }
 
 fn plan_place(fault: &PlanFault) -> usize
@@ -67,9 +94,9 @@ fn check_place(fault: &CheckFault) -> usize
     ensures { result ≡ min (check_place fault.now) 18446744073709551615 }
 {
     match fault {
-        CheckFault::OutOfRange { index } => reservation_place(*index),
-        CheckFault::Twice { index } => reservation_place(*index),
-        CheckFault::Short { index, .. } => reservation_place(*index),
+        CheckFault::OutOfRange { index }
+        | CheckFault::Twice { index }
+        | CheckFault::Short { index, .. } => reservation_place(*index),
         CheckFault::TooMany | CheckFault::Overbooked => 0,
     }
 }
@@ -80,10 +107,10 @@ impl SheetFault {
         ensures { result ≡ layer_of self.now }
     {
         match self {
-            SheetFault::Size => Layer::Sheet,
-            SheetFault::BlockCheck { .. } => Layer::Sheet,
-            SheetFault::Heading => Layer::Sheet,
-            SheetFault::EntryBlock { .. } => Layer::Sheet,
+            SheetFault::Size
+            | SheetFault::BlockCheck { .. }
+            | SheetFault::Heading
+            | SheetFault::EntryBlock { .. } => Layer::Sheet,
             SheetFault::Plan(_) => Layer::Plan,
             SheetFault::Check(_) => Layer::Check,
         }
@@ -111,14 +138,16 @@ impl SheetFault {
     {
         match self {
             SheetFault::Size | SheetFault::Heading => 0,
-            SheetFault::BlockCheck { block } => block_place(*block),
-            SheetFault::EntryBlock { block } => block_place(*block),
+            SheetFault::BlockCheck { block } | SheetFault::EntryBlock { block } => block_place(
+                *block,
+            ),
             SheetFault::Plan(fault) => plan_place(fault),
             SheetFault::Check(fault) => check_place(fault),
         }
     }
 }
 
+// These two by hand: what `?` gives has to be known where a sheet is loaded, and a derived `From` says nothing of it.
 impl From<PlanFault> for SheetFault {
     ghost from_gives = { λ f r. r ≡ Plan f };
 

@@ -1,21 +1,28 @@
 // The heading of a sheet, with its reservations.
 ghost use Rattle.std.specs.Prelude.{◌≡◌, ℕ, ◌+◌, ◌*◌, ◌/◌, ◌<◌, ◌≤◌, length, MatchOption, ◌≢◌};
-ghost use Rattle.sheet.specs.Format.{ReservationAt, blocks_for, byte};
+ghost use Rattle.sheet.specs.Format.{ReservationAt, block, blocks_for, byte};
 ghost use Rattle.sheet.specs.Read.{IsMarked, ListRead, HeadingRead};
 ghost use Rattle.sheet.specs.Told.{Headed};
 
-use crate::blocks::{are_zero, two_bytes};
+use crate::blocks::{Blocks, CHECKED_SIZE, HEAD_SIZE, are_zero};
+use crate::entries::BLOCK_ENTRIES;
+use arrayvec::ArrayVec;
 use reservation::check::MOST_RESERVATIONS;
 use reservation::reservation::Reservation;
 
-// What a heading says. The list's places past the reservations are blank.
-#[derive(Clone, Copy)]
+// The kind of a heading.
+const HEADING: u8 = 1;
+
+// How many bytes a reservation has.
+pub(crate) const RESERVATION_SIZE: usize = 6;
+
+// What a heading says.
+#[derive(Drop)]
 pub(crate) struct HeadingFields {
     pub(crate) base: u16,
     pub(crate) depth: u8,
     pub(crate) entries: usize,
-    pub(crate) reserved: usize,
-    pub(crate) list: [Reservation; 16],
+    pub(crate) reservations: ArrayVec<Reservation, MOST_RESERVATIONS>,
 }
 
 // How many blocks a sheet of so many entries has.
@@ -23,45 +30,47 @@ fn blocks_for(entries: usize) -> usize
     requires { entries ≤ 255 }
     ensures { result ≡ blocks_for entries }
 {
-    1 + (entries + 59) / 60
+    1 + entries.div_ceil(BLOCK_ENTRIES)
 }
 
-// The reservation that begins at this place, where its second byte is 0.
-fn reservation_at(bytes: &[u8], place: usize) -> Option<Reservation>
-    requires { place + 6 ≤ length bytes.now }
-    ensures { MatchOption result (byte bytes.now (place + 1) ≢ 0) (ReservationAt bytes.now place) }
+// The reservation in these bytes, where the second of them is 0.
+fn reservation_in(bytes: &[u8; RESERVATION_SIZE]) -> Option<Reservation>
+    ensures { MatchOption result (byte bytes.now 1 ≢ 0) (ReservationAt bytes.now 0) }
 {
-    if bytes[place + 1] != 0 {
+    let [
+        activity,
+        zero,
+        ticks_low,
+        ticks_high,
+        period_low,
+        period_high,
+    ] = *bytes;
+    if zero != 0 {
         return None;
     }
     Some(Reservation {
-        activity: bytes[place],
-        ticks: two_bytes(bytes, place + 2),
-        period: two_bytes(bytes, place + 4),
+        activity,
+        ticks: u16::from_le_bytes([ticks_low, ticks_high]),
+        period: u16::from_le_bytes([period_low, period_high]),
     })
 }
 
-// The reservations at the front of the bytes, and blank ones after them.
-fn read_reservations(bytes: &[u8], count: usize) -> Option<[Reservation; 16]>
+// So many reservations at the front of the bytes.
+fn read_reservations(bytes: &[u8], count: usize) -> Option<ArrayVec<Reservation, MOST_RESERVATIONS>>
     requires { (count ≤ 16) × (6 * count ≤ length bytes.now) }
-    ensures { MatchOption result (IsMarked bytes.now count) (ListRead bytes.now count) }
+    ensures { MatchOption result (IsMarked bytes.now count) (λ v. ListRead bytes.now count v.items) }
 {
-    let blank = Reservation {
-        activity: 0,
-        ticks: 0,
-        period: 0,
-    };
-    let mut list = [blank; 16];
-    for k in 0..count {
-        list[k] = reservation_at(bytes, 6 * k)?;
+    let (chunks, _) = bytes.as_chunks::<RESERVATION_SIZE>();
+    let mut list = ArrayVec::new();
+    for chunk in &chunks[..count] {
+        list.push(reservation_in(chunk)?);
     }
     Some(list)
 }
 
-// What the heading of a sheet of so many blocks says.
-pub(crate) fn read_heading(block: &[u8], blocks: usize) -> Option<HeadingFields>
-    requires { length block.now ≡ 512 }
-    ensures { MatchOption result (Headed block.now blocks → ⊥) (HeadingRead block.now blocks) }
+// What the heading says of a sheet of these blocks.
+pub(crate) fn read_heading(blocks: &Blocks) -> Option<HeadingFields>
+    ensures { MatchOption result (Headed (block blocks.now.bytes.now 0) blocks.now.count → ⊥) (HeadingRead (block blocks.now.bytes.now 0) blocks.now.count) }
 {
     let [
         kind,
@@ -73,26 +82,25 @@ pub(crate) fn read_heading(block: &[u8], blocks: usize) -> Option<HeadingFields>
         entries,
         zero,
         rest @ ..,
-    ] = block
+    ] = blocks.first()
     else {
         return None;
     };
     let (reserved, entries) = (usize::from(*reserved), usize::from(*entries));
-    if *kind != 1 || *number != 0 || *zero != 0 {
+    if *kind != HEADING || *number != 0 || *zero != 0 {
         return None;
     }
-    if reserved > MOST_RESERVATIONS || blocks_for(entries) != blocks {
+    if reserved > MOST_RESERVATIONS || blocks_for(entries) != blocks.count() {
         return None;
     }
-    let list = read_reservations(rest, reserved)?;
-    if !are_zero(rest, 6 * reserved, 500) {
+    let reservations = read_reservations(rest, reserved)?;
+    if !are_zero(&rest[RESERVATION_SIZE * reserved..CHECKED_SIZE - HEAD_SIZE]) {
         return None;
     }
     Some(HeadingFields {
         base: u16::from_le_bytes([*low, *high]),
         depth: *depth,
         entries,
-        reserved,
-        list,
+        reservations,
     })
 }

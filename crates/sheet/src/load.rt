@@ -4,39 +4,37 @@ ghost use Rattle.sheet.specs.Loaded.{Loaded};
 ghost use Rattle.sheet.specs.Read.{SheetRead, Judged};
 ghost use Rattle.sheet.specs.Told.{Told, Only, Refused, Within, Never};
 
-use crate::blocks::{block_at, count_blocks, first_unchecked};
+use crate::blocks::Blocks;
 use crate::entries::{first_broken, read_entries};
 use crate::fault::SheetFault;
 use crate::heading::{HeadingFields, read_heading};
+use arrayvec::ArrayVec;
 use plan::entry::Entry;
+use plan::fill::MOST_ENTRIES;
 use plan::plan::Plan;
-use reservation::check::check;
+use reservation::check::{MOST_RESERVATIONS, check};
 use reservation::reservation::Reservation;
 
 // What a sheet says.
-#[derive(Clone, Copy)]
+#[derive(Drop)]
 struct Contents {
     heading: HeadingFields,
-    entries: [Entry; 120],
+    entries: ArrayVec<Entry, MOST_ENTRIES>,
 }
 
 // What the bytes say, where they are a sheet. The tests come in the order of the refusals' numbers.
 fn read(sheet: &[u8]) -> Result<Contents, SheetFault>
     ensures { MatchResult result (SheetRead sheet.now) (Refused sheet.now) }
 {
-    let Some(blocks) = count_blocks(sheet) else {
-        return Err(SheetFault::Size);
-    };
-    if let Some(block) = first_unchecked(sheet, blocks) {
+    let blocks = Blocks::new(sheet).ok_or(SheetFault::Size)?;
+    if let Some(block) = blocks.first_unchecked() {
         return Err(SheetFault::BlockCheck { block });
     }
-    let Some(heading) = read_heading(block_at(sheet, 0), blocks) else {
-        return Err(SheetFault::Heading);
-    };
-    if let Some(block) = first_broken(sheet, blocks, heading.entries) {
+    let heading = read_heading(&blocks).ok_or(SheetFault::Heading)?;
+    if let Some(block) = first_broken(&blocks, heading.entries) {
         return Err(SheetFault::EntryBlock { block });
     }
-    let entries = read_entries(sheet, heading.entries);
+    let entries = read_entries(&blocks, heading.entries);
     Ok(Contents { heading, entries })
 }
 
@@ -44,8 +42,7 @@ fn read(sheet: &[u8]) -> Result<Contents, SheetFault>
 #[derive(Drop)]
 struct Passed {
     plan: Plan,
-    list: [Reservation; 16],
-    count: usize,
+    reservations: ArrayVec<Reservation, MOST_RESERVATIONS>,
 }
 
 // What the bytes say, where they are a sheet whose reservations pass on its plan. The plan is filled from a fresh one.
@@ -54,12 +51,11 @@ fn examine(sheet: &[u8], fresh: Plan) -> Result<Passed, SheetFault>
 {
     let mut plan = fresh;
     let Contents { heading, entries } = read(sheet)?;
-    plan.fill(heading.base, heading.depth, &entries[0..heading.entries])?;
-    check(&plan, &heading.list[0..heading.reserved])?;
+    plan.fill(heading.base, heading.depth, entries.as_slice())?;
+    check(&plan, heading.reservations.as_slice())?;
     Ok(Passed {
         plan,
-        list: heading.list,
-        count: heading.reserved,
+        reservations: heading.reservations,
     })
 }
 
@@ -76,12 +72,11 @@ pub fn load(
     ensures never { Never result }
     ensures after { Loaded sheet.now plan.old plan.new list.old list.new result }
 {
-    let Passed {
-        plan: filled,
-        list: read,
-        count,
-    } = examine(sheet, plan.fresh())?;
-    *plan = filled;
-    *list = read;
+    // A list of 16 places with a count beside it is the form that callers ask for.
+    let passed = examine(sheet, plan.fresh())?;
+    let count = passed.reservations.len();
+    *plan = passed.plan;
+    *list = [Reservation::default(); 16];
+    list[..count].copy_from_slice(passed.reservations.as_slice());
     Ok(count)
 }

@@ -5,23 +5,16 @@ use reservation::reservation::Reservation;
 use std::alloc::{AllocError, Global};
 
 fn add_two(bytes: &mut Vec<u8>, number: u16) -> Result<(), AllocError> {
-    let [low, high] = number.to_le_bytes();
-    bytes.push(low)?;
-    bytes.push(high)?;
-    Ok(())
+    bytes.extend_from_slice(&number.to_le_bytes())
 }
 
 fn pad(bytes: &mut Vec<u8>, size: usize) -> Result<(), AllocError> {
-    for _ in bytes.len()..size {
-        bytes.push(0)?;
-    }
-    Ok(())
+    bytes.resize(size.max(bytes.len()), 0)
 }
 
 fn add_reservations(bytes: &mut Vec<u8>, list: &[Reservation]) -> Result<(), AllocError> {
     for reservation in list {
-        bytes.push(reservation.activity)?;
-        bytes.push(0)?;
+        bytes.extend_from_slice(&[reservation.activity, 0])?;
         add_two(bytes, reservation.ticks)?;
         add_two(bytes, reservation.period)?;
     }
@@ -30,8 +23,7 @@ fn add_reservations(bytes: &mut Vec<u8>, list: &[Reservation]) -> Result<(), All
 
 fn add_entries(bytes: &mut Vec<u8>, entries: &[Entry]) -> Result<(), AllocError> {
     for entry in entries {
-        bytes.push(entry.activity)?;
-        bytes.push(entry.depth)?;
+        bytes.extend_from_slice(&[entry.activity, entry.depth])?;
         add_two(bytes, entry.path)?;
         add_two(bytes, entry.offset)?;
         add_two(bytes, entry.length)?;
@@ -40,42 +32,37 @@ fn add_entries(bytes: &mut Vec<u8>, entries: &[Entry]) -> Result<(), AllocError>
 }
 
 fn add_block(bytes: &mut Vec<u8>, number: u8, entries: &[Entry]) -> Result<(), AllocError> {
-    bytes.push(2)?;
-    bytes.push(number)?;
-    bytes.push((entries.len() % 256) as u8)?;
-    for _ in 0..5u8 {
-        bytes.push(0)?;
-    }
+    let count = (entries.len() % 256) as u8;
+    bytes.extend_from_slice(&[2, number, count, 0, 0, 0, 0, 0])?;
     add_entries(bytes, entries)
+}
+
+// The sum of the bytes, each times its place counted from 1.
+fn weighted_sum(bytes: &[u8]) -> u32 {
+    bytes.iter().zip(1..=508u32).fold(
+        0u32,
+        |sum, (byte, weight)| sum.wrapping_add(u32::from(*byte).wrapping_mul(weight)),
+    )
 }
 
 // The same bytes with the right check in every whole block.
 pub fn mended(heap: Global, bytes: &[u8]) -> Result<Vec<u8>, AllocError> {
+    let (blocks, rest) = bytes.as_chunks::<512>();
     let mut out = Vec::new(heap);
-    let mut weight = 0u32;
-    let mut sum = 0u32;
-    for byte in bytes {
-        weight = weight.wrapping_add(1);
-        if weight <= 508 {
-            sum = sum.wrapping_add(weight.wrapping_mul(u32::from(*byte)));
-            out.push(*byte)?;
-        } else {
-            out.push((sum & 0xff) as u8)?;
-            sum = sum >> 8;
-        }
-        if weight == 512 {
-            weight = 0;
-            sum = 0;
-        }
+    for block in blocks {
+        let summed = &block[..508];
+        out.extend_from_slice(summed)?;
+        out.extend_from_slice(&weighted_sum(summed).to_le_bytes())?;
     }
+    out.extend_from_slice(rest)?;
     Ok(out)
 }
 
 // The sheet with one byte changed, and its checks mended.
 pub fn changed(heap: Global, bytes: &[u8], at: usize, value: u8) -> Result<Vec<u8>, AllocError> {
-    let mut out = Vec::new(heap);
-    for (i, byte) in bytes.iter().enumerate() {
-        out.push(if i == at { value } else { *byte })?;
+    let mut out = bytes.to_vec(heap)?;
+    if let Some(byte) = out.get_mut(at) {
+        *byte = value;
     }
     mended(heap, out.as_slice())
 }
@@ -89,13 +76,10 @@ pub fn sheet(
     list: &[Reservation],
 ) -> Result<Vec<u8>, AllocError> {
     let mut bytes = Vec::new(heap);
-    bytes.push(1)?;
-    bytes.push(0)?;
+    bytes.extend_from_slice(&[1, 0])?;
     add_two(&mut bytes, base)?;
-    bytes.push(depth)?;
-    bytes.push((list.len() % 256) as u8)?;
-    bytes.push((entries.len() % 256) as u8)?;
-    bytes.push(0)?;
+    let (reserved, entered) = ((list.len() % 256) as u8, (entries.len() % 256) as u8);
+    bytes.extend_from_slice(&[depth, reserved, entered, 0])?;
     add_reservations(&mut bytes, list)?;
     pad(&mut bytes, 512)?;
     add_blocks(&mut bytes, entries)?;
@@ -103,14 +87,9 @@ pub fn sheet(
 }
 
 fn add_blocks(bytes: &mut Vec<u8>, entries: &[Entry]) -> Result<(), AllocError> {
-    let (first, second) = entries.split_at(entries.len().min(60));
-    if first.len() > 0 {
-        add_block(bytes, 1, first)?;
-        pad(bytes, 1024)?;
-    }
-    if second.len() > 0 {
-        add_block(bytes, 2, second)?;
-        pad(bytes, 1536)?;
+    for (number, block) in (1..=2u8).zip(entries.chunks(60)) {
+        add_block(bytes, number, block)?;
+        pad(bytes, 512 * (usize::from(number) + 1))?;
     }
     Ok(())
 }

@@ -13,16 +13,18 @@ use std::alloc::{AllocError, Global};
 use std::test::Fail;
 
 // A list that is full of something else.
-fn full_list() -> [Reservation; 16] {
-    [reserve(9, 1, 8); 16]
-}
+const FULL_LIST: [Reservation; 16] = [Reservation {
+    activity: 9,
+    ticks: 1,
+    period: 8,
+}; 16];
 
 // The sheet of the example plan with one reservation.
 fn example(heap: Global) -> Result<Vec<u8>, AllocError> {
     sheet(heap, 10, 2, &EXAMPLE_ENTRIES, &[reserve(0, 4, 20)])
 }
 
-// Fails a test in which something does not hold.
+// Fails a test in which something does not hold: a helper has no handle, without which it cannot assert.
 fn check(holds: bool) -> Result<(), Fail> {
     if holds {
         Ok(())
@@ -40,10 +42,10 @@ fn refused(
     place: usize,
 ) -> Result<(), Fail> {
     let mut plan = example_plan(heap)?;
-    let mut list = full_list();
+    let mut list = FULL_LIST;
     check(load(bytes, &mut plan, &mut list) == Err(fault))?;
     check(is_example(&plan))?;
-    check(list == full_list())?;
+    check(list == FULL_LIST)?;
     check(fault.number() == Some(number))?;
     check(fault.place() == place)
 }
@@ -71,21 +73,20 @@ fn taken(
     let bytes = sheet(heap, 64, 5, entries, reservations)?;
     check(bytes.len() == size)?;
     let mut plan = example_plan(heap)?;
-    let mut list = full_list();
+    let mut list = FULL_LIST;
     check(load(bytes.as_slice(), &mut plan, &mut list) == Ok(reservations.len()))?;
     check(plan.base().ticks == 64 && plan.depth() == 5)?;
     check(plan.entries() == entries)?;
-    let (front, rest) = list.split_at(reservations.len().min(16));
-    check(front == reservations)?;
-    check(rest.iter().all(|place| *place == Reservation::default()))?;
-    Ok(())
+    check(list.starts_with(reservations))?;
+    let mut others = list.iter().skip(reservations.len());
+    check(others.all(|reservation| *reservation == reserve(0, 0, 0)))
 }
 
 #[test]
 fn example_is_taken(rt: HostRuntime) -> Result<(), Fail> {
     let heap = rt.alloc();
     let mut plan = Plan::empty(heap);
-    let mut list = full_list();
+    let mut list = FULL_LIST;
     let bytes = example(heap)?;
     assert_eq!(rt; bytes.len(), 1024);
     assert_eq!(rt; load(bytes.as_slice(), &mut plan, &mut list), Ok(1));
@@ -100,10 +101,10 @@ fn example_is_taken(rt: HostRuntime) -> Result<(), Fail> {
 fn fewest_and_most_entries_are_taken(rt: HostRuntime) -> Result<(), Fail> {
     let heap = rt.alloc();
     taken(heap, &[], &[], 512)?;
-    taken(heap, deep_entries(heap, 1)?.as_slice(), &[], 1024)?;
-    taken(heap, deep_entries(heap, 60)?.as_slice(), &[], 1024)?;
-    taken(heap, deep_entries(heap, 61)?.as_slice(), &[], 1536)?;
-    taken(heap, deep_entries(heap, 120)?.as_slice(), &[], 1536)
+    for (count, size) in [(1, 1024), (60, 1024), (61, 1536), (120, 1536)] {
+        taken(heap, deep_entries(heap, count)?.as_slice(), &[], size)?;
+    }
+    Ok(())
 }
 
 #[test]
@@ -148,28 +149,39 @@ fn wrong_check_is_told(rt: HostRuntime) -> Result<(), Fail> {
 #[test]
 fn wrong_heading_is_told(rt: HostRuntime) -> Result<(), Fail> {
     let heap = rt.alloc();
-    refused_at(heap, 0, 2, SheetFault::Heading, 33, 0)?;
-    refused_at(heap, 1, 1, SheetFault::Heading, 33, 0)?;
-    refused_at(heap, 5, 17, SheetFault::Heading, 33, 0)?;
-    refused_at(heap, 6, 0, SheetFault::Heading, 33, 0)?;
-    refused_at(heap, 6, 61, SheetFault::Heading, 33, 0)?;
-    refused_at(heap, 7, 1, SheetFault::Heading, 33, 0)?;
-    refused_at(heap, 9, 1, SheetFault::Heading, 33, 0)?;
-    refused_at(heap, 14, 1, SheetFault::Heading, 33, 0)?;
-    refused_at(heap, 507, 1, SheetFault::Heading, 33, 0)
+    let changes = [
+        (0, 2),
+        (1, 1),
+        (5, 17),
+        (6, 0),
+        (6, 61),
+        (7, 1),
+        (9, 1),
+        (14, 1),
+        (507, 1),
+    ];
+    for (at, value) in changes {
+        refused_at(heap, at, value, SheetFault::Heading, 33, 0)?;
+    }
+    Ok(())
 }
 
 #[test]
 fn wrong_entry_block_is_told(rt: HostRuntime) -> Result<(), Fail> {
     let heap = rt.alloc();
     let fault = SheetFault::EntryBlock { block: 1 };
-    refused_at(heap, 512, 1, fault, 34, 512)?;
-    refused_at(heap, 513, 2, fault, 34, 512)?;
-    refused_at(heap, 514, 5, fault, 34, 512)?;
-    refused_at(heap, 515, 1, fault, 34, 512)?;
-    refused_at(heap, 519, 1, fault, 34, 512)?;
-    refused_at(heap, 568, 1, fault, 34, 512)?;
-    refused_at(heap, 1019, 1, fault, 34, 512)?;
+    let changes = [
+        (512, 1),
+        (513, 2),
+        (514, 5),
+        (515, 1),
+        (519, 1),
+        (568, 1),
+        (1019, 1),
+    ];
+    for (at, value) in changes {
+        refused_at(heap, at, value, fault, 34, 512)?;
+    }
     let full = sheet(heap, 64, 5, deep_entries(heap, 61)?.as_slice(), &[])?;
     let bytes = changed(heap, full.as_slice(), 1026, 2)?;
     refused(

@@ -1,10 +1,8 @@
-use Rattle.std.proofs.Common.{◌≡◌, subst, arith}
-use Rattle.sheet.specs.Format.{EntryAt, entry_place}
+use Rattle.std.proofs.Common.{arith}
 use Rattle.sheet.proofs.EntryParts.{entries_more}
 use Rattle.sheet.proofs.entries.read_entries.Goals as goal
 
-pub loop-k-preserved : goal.loop-k-preserved
-loop-k-preserved c =
-    let place : c.entry_place.result ≡ entry_place c.loop-k.k = omega (arith, c.entry_place.ensures) in
-    entries_more c.args.sheet.now c.loop-k.k c.loop-k.entries c.entry_at.result (omega arith) c.loop-k.invariant
-    (subst (λ p. EntryAt c.args.sheet.now p c.entry_at.result) place c.entry_at.ensures)
+pub loop-chunk-preserved : goal.loop-chunk-preserved
+loop-chunk-preserved c =
+    rw c.push.ensures.items
+    (entries_more c.args.blocks.now.bytes.now _ c.as_chunks.result.0.now c.loop-number.number c.entries_in.result c.loop-chunk.chunk-index (c.as_slice-blocks.ensures.each c.loop-number.number (omega arith)) (omega arith) c.as_chunks.ensures.front (omega arith) (omega arith) c.loop-chunk.entries.items c.entry_in.result c.loop-chunk-test.true c.loop-chunk.invariant c.entry_in.ensures)

@@ -1,21 +1,30 @@
-use Rattle.std.proofs.Common.{refl, arith}
+use Rattle.std.proofs.Common.{◌*◌, refl, subst, arith}
+use Rattle.sheet.specs.Format.{byte, IsHeading}
+use Rattle.sheet.specs.Told.{Headed}
+use Rattle.sheet.proofs.Bytes.{behind, zero_within, zero_of_range}
 use Rattle.sheet.proofs.Headings.{marked_none, unzero_none, heading_made}
 use Rattle.sheet.proofs.heading.read_heading.Goals as goal
 
-pub returns-in_err-list : goal.returns-in_err-list
-returns-in_err-list c =
-    rw c.from_residual.ensures (marked_none c.args.block.now c.from-reserved.result c.args.blocks c.from-reserved.ensures c.in_err-list.ensures)
+pub returns-in_err-reservations : goal.returns-in_err-reservations
+returns-in_err-reservations c =
+    let none = marked_none c.first.result.now c.from-reserved.result c.args.blocks.now.count c.from-reserved.ensures c.in_err-reservations.ensures in
+    rw c.from_residual.ensures (subst (λ b. Headed b c.args.blocks.now.count → ⊥) c.first.ensures.value none)
 
 pub returns-then-not-are_zero : goal.returns-then-not-are_zero
-returns-then-not-are_zero c = unzero_none c.args.block.now c.from-reserved.result c.args.blocks c.from-reserved.ensures c.if-not-are_zero.ensures
+returns-then-not-are_zero c =
+    let b = c.first.result.now in
+    let m = c.from-reserved.result in
+    let none = unzero_none b m c.args.blocks.now.count c.from-reserved.ensures (λ z. c.if-not-are_zero.ensures (zero_of_range (behind b 8) (6 * m) 500 z)) in
+    subst (λ x. Headed x c.args.blocks.now.count → ⊥) c.first.ensures.value none
 
 pub returns : goal.returns
 returns c =
-    let read = c.in_ok-list.ensures in
+    let b = c.first.result.now in
+    let m = c.from-reserved.result in
+    let zeros = zero_within (behind b 8) (6 * m) 500 (omega arith) (omega arith) c.if-not-are_zero.ensures in
     record {
-      few = omega arith;
-      places = read.places;
-      heading = heading_made c.args.block.now c.from_le_bytes.result _ c.from-reserved.result c.from-entries.result c.in_ok-list.list (omega arith) (omega arith) c.from_le_bytes.ensures refl c.from-reserved.ensures c.from-entries.ensures (omega arith) (omega arith) read c.if-not-are_zero.ensures;
+      heading =
+          subst (λ x. IsHeading x c.from_le_bytes.result (byte b 4) c.in_ok-reservations.reservations.items c.from-entries.result) c.first.ensures.value
+          (heading_made b c.from_le_bytes.result (byte b 4) m c.from-entries.result c.in_ok-reservations.reservations.items (omega arith) (omega arith) c.from_le_bytes.ensures refl c.from-reserved.ensures c.from-entries.ensures (omega arith) (omega arith) c.in_ok-reservations.ensures zeros);
       fits = omega arith;
-      others = read.others;
     }
