@@ -1,5 +1,5 @@
 -- Lines read back are those that were written: whole lines.
-use Rattle.std.proofs.Common.{◌≡◌, ℕ, ◌≤◌, Bool, true, false, cond, eqb, List, [], ◌∷◌, ◌++◌, drop, ℤ, Ok, Err, decimal, Result, sym, refl, ap, ◌∙◌, subst, append_assoc, arith}
+use Rattle.std.proofs.Common.{◌≡◌, ℕ, ◌≤◌, Bool, true, false, cond, eqb, List, [], ◌∷◌, ◌++◌, drop, ℤ, Ok, Err, is_ok, decimal, Result, sym, refl, ap, ◌∙◌, subst, append_assoc, arith}
 use Rattle.std.specs.Fmt.{signed_decimal}
 use Rattle.std.proofs.lemmas.Bool.Decides.{nat_tests}
 use Rattle.std.proofs.lemmas.Bool.{cond-false}
@@ -7,7 +7,9 @@ use Rattle.command.specs.declared.command.Command.{Command}
 use Rattle.command.specs.declared.command.Command.TheVariants.{Open, Wake, Block, Tick, Begin, End}
 use Rattle.command.specs.declared.reader.Slip.{Slip}
 use Rattle.command.specs.declared.reader.Slip.TheVariants.{Unexpected}
-use Rattle.command.specs.Grammar.{InRange, command_text, Begins, ReadOnce}
+use Rattle.command.specs.declared.command.ScriptFault.{ScriptFault}
+use Rattle.command.specs.declared.command.ScriptFault.TheVariants.{Malformed}
+use Rattle.command.specs.Grammar.{InRange, command_text, Begins, Reads, ReadOnce}
 use Rattle.command.specs.Reading.{and_then, expected, field_in, field_rest, signed_field_in, signed_field_rest, open_in, open_rest, wake_in, block_in, tick_in, end_in, begin_in, begin_rest, fields_in, fields_rest, line_in, line_rest}
 use Rattle.command.proofs.Numerals.{slipped, then_from}
 use Rattle.command.proofs.Lines.{byte_there, field_there, field_read, signed_field_there, signed_field_read}
@@ -123,7 +125,7 @@ fields_there b bs c e = by (eqb b 111) (eqb b 119) (eqb b 98) (eqb b 116) (eqb b
     by false false false false false false ho hw hk ht hg hn e = absurd (slipped c Unexpected e)
 
 -- a line that is read says its command
-pub line_there : (xs : List ℕ) (c : Command) → line_in xs ≡ Ok c → Begins xs c (line_rest xs)
+line_there : (xs : List ℕ) (c : Command) → line_in xs ≡ Ok c → Begins xs c (line_rest xs)
 unfolding line_in line_rest
 line_there [] c e = absurd (slipped c Unexpected e)
 line_there (b ∷ bs) c e =
@@ -214,7 +216,16 @@ read_once text c d ys zs p q =
     )
 
 -- a text that is not read begins with no line of a command
-pub none_there : (xs : List ℕ) (s : Slip) → line_in xs ≡ Err s → (c : Command) (ys : List ℕ) → Begins xs c ys → ⊥
+none_there : (xs : List ℕ) (s : Slip) → line_in xs ≡ Err s → (c : Command) (ys : List ℕ) → Begins xs c ys → ⊥
 none_there xs s e c ys p =
     let a = line_read c ys p.range in
     slipped c s (sym e ∙ (ap line_in p.line ∙ a.0))
+
+-- what comes of a line is what the text says there
+pub line_reads : (xs ys : List ℕ) (k : ℕ) (r : Result Command Slip) (q : Result Command ScriptFault) → r ≡ line_in xs → (is_ok r ≡ true → ys ≡ line_rest xs)
+    → ((c : Command) → r ≡ Ok c → q ≡ Ok c) → ((s : Slip) → r ≡ Err s → q ≡ Err (Malformed k)) → Reads xs k q ys
+line_reads xs ys k (Ok c) q e after good bad =
+    subst (λ (z : Result Command ScriptFault). Reads xs k z ys) (sym (good c refl))
+    (subst (λ (z : List ℕ). Begins xs c z) (sym (after refl)) (line_there xs c (sym e)))
+line_reads xs ys k (Err s) q e after good bad =
+    subst (λ (z : Result Command ScriptFault). Reads xs k z ys) (sym (bad s refl)) (refl, none_there xs s (sym e))

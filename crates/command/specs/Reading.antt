@@ -1,15 +1,11 @@
 -- How the reader goes through a text, part by part. What it finds is said in Grammar.
-use Rattle.std.specs.Prelude.{ℕ, ◌+◌, ◌-◌, ◌*◌, min, Bool, cond, ◌&&◌, List, [], ◌∷◌, take, drop, ℤ, pos, neg_ℤ, Some, None, Ok, Err, Option, Result, ◌==◌, nat_le, nat_lt, slice_index}
+use Rattle.std.specs.Prelude.{◌≡◌, ℕ, ◌+◌, ◌-◌, ◌*◌, min, Bool, cond, ◌&&◌, List, [], ◌∷◌, take, drop, ℤ, pos, neg_ℤ, Some, None, Ok, Err, Option, Result, ◌==◌, nat_le, nat_lt, slice_index}
 use Rattle.std.specs.List.{prefix_len}
 use Rattle.command.specs.declared.command.Command.{Command}
 use Rattle.command.specs.declared.command.Command.TheVariants.{Open, Wake, Block, Tick, Begin, End}
 use Rattle.command.specs.declared.reader.Slip.{Slip}
 use Rattle.command.specs.declared.reader.Slip.TheVariants.{Unexpected}
-use Rattle.command.specs.declared.reader.Reader.{Reader}
-
--- what is still to be read
-abbrev pub rest : Reader → List ℕ
-rest r = drop r.at r.bytes.now
+use Rattle.command.specs.Unread.{Unread}
 
 abbrev pub first_of : List ℕ → Option ℕ
 first_of [] = None
@@ -44,6 +40,15 @@ number_in bs =
 abbrev pub past : {T : Type 0} → Result T Slip → ℕ → List ℕ → List ℕ
 past (Ok x) n bs = drop n bs
 past (Err e) n bs = bs
+
+-- so many bytes are passed over on the same line, and none where the reading is refused
+abbrev pub Passes : {T : Type 0} → Result T Slip → ℕ → Unread → Unread → Type 0
+Passes r n old new = new ≡ record { rest = past r n old.rest; line = old.line }
+
+-- the reader has gone on along its line, up to what is left; where the reading is refused, it may stand anywhere
+abbrev pub GoesOn : {T : Type 0} → Result T Slip → Unread → List ℕ → Unread → Type 0
+GoesOn (Ok x) old left new = new ≡ record { rest = left; line = old.line }
+GoesOn (Err e) old left new = new.line ≡ old.line
 
 -- one byte that has to stand here
 abbrev pub expected : ℕ → List ℕ → Result (Unit {0}) Slip

@@ -1,5 +1,4 @@
 use Rattle.std.proofs.Common.{◌+◌, ◌*◌, length}
-use Rattle.command.specs.Reading.{rest}
 use Rattle.row.specs.Buffers.{waiting}
 use Rattle.rehearsal.specs.Onwards.{standing}
 use Rattle.rehearsal.proofs.Running.{SoFar}
@@ -13,4 +12,4 @@ invariant-loop-row g l =
 
 -- a line has at least its byte 10, and says at most 9,999 ticks
 abbrev pub decreases-loop-row : goal.decreases-loop-row
-decreases-loop-row g l = 10000 * length (rest l.self.reader) + l.self.ticks
+decreases-loop-row g l = 10000 * length l.self.reader.rest + l.self.ticks
