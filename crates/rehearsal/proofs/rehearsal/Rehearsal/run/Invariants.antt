@@ -1,5 +1,4 @@
 use Rattle.std.proofs.Common.{◌+◌, ◌*◌, length}
-use Rattle.row.specs.Buffers.{waiting}
 use Rattle.rehearsal.specs.Onwards.{standing}
 use Rattle.rehearsal.proofs.Running.{SoFar}
 use Rattle.rehearsal.proofs.rehearsal.Rehearsal.run.Given as goal
@@ -8,7 +7,7 @@ abbrev pub invariant-loop-row : goal.invariant-loop-row
 invariant-loop-row g l =
     SoFar g.R.SpareRule.distance g.R.SpareRule.patience g.R.SpareRule.step g.S.Sink.hands
     (standing g.T.Timetable.owner g.T.Timetable.cycle g.R.SpareRule.distance g.R.SpareRule.patience l.initial.self) l.initial.sink
-    (standing g.T.Timetable.owner g.T.Timetable.cycle g.R.SpareRule.distance g.R.SpareRule.patience l.self) l.sink (waiting l.rows)
+    (standing g.T.Timetable.owner g.T.Timetable.cycle g.R.SpareRule.distance g.R.SpareRule.patience l.self) l.sink l.rows
 
 -- a line has at least its byte 10, and says at most 9,999 ticks
 abbrev pub decreases-loop-row : goal.decreases-loop-row
