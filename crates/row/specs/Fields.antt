@@ -1,5 +1,5 @@
 -- The parts of a row.
-use Rattle.std.specs.Prelude.{ℕ, Bool, List, length, decimal, nat_le, nat_lt, sum_by}
+use Rattle.std.specs.Prelude.{ℕ, Bool, List, [], ◌∷◌, ◌++◌, length, codes, decimal, nat_le, nat_lt, sum_by}
 use Rattle.std.specs.List.{flat_map}
 use Rattle.row.specs.declared.field.Field.{Field}
 use Rattle.row.specs.declared.field.Field.TheVariants.{Text, Number}
@@ -10,6 +10,10 @@ field_text (Number n) = decimal n
 
 abbrev pub fields_text : List Field → List ℕ
 fields_text fs = flat_map field_text fs
+
+-- a call that is refused, with its byte 10
+abbrev pub refusal_text : List ℕ → ℕ → ℕ → List ℕ
+refusal_text call id number = call ++ (decimal id ++ (codes " no " ++ (decimal number ++ (10 ∷ []))))
 
 -- how long all fields are
 abbrev pub size_of : List Field → ℕ

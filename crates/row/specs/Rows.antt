@@ -1,5 +1,5 @@
 -- What rows look like, and what writing one does to a buffer.
-use Rattle.std.specs.Prelude.{ℕ, cond, List, [], ◌∷◌, ◌++◌, length, drop, Some, None, Ok, Err, codes, decimal, Option, Result, nat_le}
+use Rattle.std.specs.Prelude.{◌≡◌, ℕ, ◌≤◌, cond, List, [], ◌∷◌, ◌++◌, length, drop, Some, None, Ok, Err, codes, decimal, Option, Result, nat_le}
 use Rattle.std.specs.Fmt.{signed_decimal}
 use Rattle.level.specs.declared.ticked.Letter.{Letter}
 use Rattle.level.specs.declared.ticked.Letter.TheVariants.{Constrained, Reserved, Spare, Idle}
@@ -48,3 +48,9 @@ placed t xs = cond (nat_le (length t) (length xs)) (t ++ drop (length t) xs) xs
 -- the length of a row's text, or the refusal
 abbrev pub row_room : List ℕ → List ℕ → Result ℕ RowFault
 row_room t xs = cond (nat_le (length t) (length xs)) (Ok (length t)) (Err Full)
+
+-- a text of a row is written at the front of a buffer, and all that stands behind it stays; or it has no room, and all stays
+pub record Writes (text old : List ℕ) (r : Result ℕ RowFault) (new : List ℕ) : Type 0 where
+  pub value : r ≡ row_room text old
+  pub after : new ≡ placed text old
+  pub short : length text ≤ 99

@@ -40,8 +40,8 @@ impl Field {
     }
 }
 
-// A number.
-pub(crate) fn number(n: u32) -> Field
+// The digits of a number.
+pub(crate) fn digits(n: u32) -> Field
     ensures text { field_text result ≡ decimal n }
     ensures short { IsTrue (is_short result) }
 {
