@@ -6,7 +6,7 @@ ghost use Rattle.reservation.specs.Reservations.{InRange};
 pub const MOST_PERIOD: u16 = 4096;
 
 /// The activity is to own at least `ticks` of any `period` ticks in a row.
-#[derive(Clone, Copy, PartialEq, Eq, Debug)]
+#[derive(Clone, Copy, PartialEq, Eq, Default, Debug)]
 pub struct Reservation {
     pub activity: u8,
     pub ticks: u16,
