@@ -6,7 +6,7 @@ use Rattle.std.proofs.lemmas.Str.Parse.{IsNumeralModel, numerals_by_fold}
 use Rattle.std.proofs.lemmas.Fmt.{decimal-digits_value, digits_value-decimal, digits_decimal, decimal_nonempty, first_decimal, decimal_digit}
 use Rattle.std.proofs.lemmas.List.{take-append-drop, length-take-le, get_or-take, take_at, drop_at, get_or_append_left}
 use Rattle.std.proofs.lemmas.List.Sums.{prefix_len-le-length}
-use Rattle.std.proofs.lemmas.Bool.{cond-true, cond-false, cases_lt, lt-ltb}
+use Rattle.std.proofs.lemmas.Bool.{cond-true, cond-false, cases_lt, lt-ltb, and_from, and_parts}
 use Rattle.std.proofs.lemmas.Bool.Decides.{nat_tests}
 use Rattle.command.specs.declared.reader.Slip.{Slip}
 use Rattle.command.specs.declared.reader.Slip.TheVariants.{Unexpected}
@@ -28,14 +28,6 @@ pub then_from : {A B : Type 0} (r : Result A Slip) (k : A → Result B Slip) (y 
 then_from (Ok x) k y e = (x, (refl, e))
 then_from (Err s) k y e = absurd (slipped y s e)
 
-both_are : (a b : Bool) → a ≡ true → b ≡ true → (a && b) ≡ true
-both_are a b p q = ap (λ z. z && b) p ∙ q
-
-are_both : (a b : Bool) → (a && b) ≡ true → (a ≡ true) × (b ≡ true)
-are_both true b e = (refl, e)
-are_both false true e = (e, refl)
-are_both false false e = (e, e)
-
 -- the front that is digits is all digits
 front_digits : (xs : List ℕ) → all_ascii_digits (take (prefix_len is_digit xs) xs) ≡ true
 front_digits [] = refl
@@ -44,13 +36,13 @@ front_digits (x ∷ xs) = by (is_digit x) refl (front_digits xs)
     by : (b : Bool) → is_digit x ≡ b → all_ascii_digits (take (prefix_len is_digit xs) xs) ≡ true → all_ascii_digits (take (cond b (1 + prefix_len is_digit xs) 0) (x ∷ xs)) ≡ true
     by false e h = refl
     by true e h =
-        ap (λ n. all_ascii_digits (take n (x ∷ xs))) (one-add (prefix_len is_digit xs)) ∙ both_are (is_digit x) (all_ascii_digits (take (prefix_len is_digit xs) xs)) e h
+        ap (λ n. all_ascii_digits (take n (x ∷ xs))) (one-add (prefix_len is_digit xs)) ∙ and_from (is_digit x) (all_ascii_digits (take (prefix_len is_digit xs) xs)) e h
 
 -- digits and then no digit: the front that is digits is those
 front_length : (ds ys : List ℕ) → all_ascii_digits ds ≡ true → Ended ys → prefix_len is_digit (ds ++ ys) ≡ length ds
 front_length [] ys h e = e
 front_length (d ∷ ds) ys h e =
-    let b = are_both (is_digit d) (all_ascii_digits ds) h in
+    let b = and_parts (is_digit d) (all_ascii_digits ds) h in
     cond-true _ _ _ b.0 ∙ (ap (λ k. 1 + k) (front_length ds ys b.1 e) ∙ one-add (length ds))
 
 three : (a b c : Bool) (v n : ℕ) → cond a (Err Unexpected) (cond b (Err Unexpected) (cond c (Ok v) (Err Unexpected))) ≡ Ok n

@@ -20,26 +20,26 @@ Said b bs c ys = (b ∷ bs ≡ command_text c ++ ys) × InRange c
 same_ok : {A : Type 0} (x y : A) → ◌≡◌ {A = Result A Slip} (Ok x) (Ok y) → x ≡ y
 same_ok x y e = cc
 
+-- a letter and one field
+one_there : (make : ℕ → Command) (b : ℕ) → ((a : ℕ) → command_text (make a) ≡ b ∷ 32 ∷ decimal a) → ((a : ℕ) → a ≤ 65535 → InRange (make a))
+    → (bs : List ℕ) (c : Command) → and_then (field_in 65535 bs) (λ a. Ok (make a)) ≡ Ok c → Said b bs c (field_rest bs)
+one_there make b text range bs c e =
+    let a = then_from (field_in 65535 bs) (λ a. Ok (make a)) c e in
+    let f = field_there 65535 bs a.0 a.1.0 in
+    subst (λ (d : Command). Said b bs d (field_rest bs)) (same_ok (make a.0) c a.1.1)
+    (ap (λ z. b ∷ z) f.0 ∙ ap (λ z. z ++ field_rest bs) (sym (text a.0)), range a.0 f.1)
+
 wake_there : (bs : List ℕ) (c : Command) → wake_in bs ≡ Ok c → Said 119 bs c (field_rest bs)
 unfolding wake_in
-wake_there bs c e =
-    let a = then_from (field_in 65535 bs) (λ a. Ok (Wake a)) c e in
-    let f = field_there 65535 bs a.0 a.1.0 in
-    subst (λ (d : Command). Said 119 bs d (field_rest bs)) (same_ok (Wake a.0) c a.1.1) (ap (λ z. 119 ∷ z) f.0, f.1)
+wake_there = one_there Wake 119 (λ a. refl) (λ a h. h)
 
 block_there : (bs : List ℕ) (c : Command) → block_in bs ≡ Ok c → Said 98 bs c (field_rest bs)
 unfolding block_in
-block_there bs c e =
-    let a = then_from (field_in 65535 bs) (λ a. Ok (Block a)) c e in
-    let f = field_there 65535 bs a.0 a.1.0 in
-    subst (λ (d : Command). Said 98 bs d (field_rest bs)) (same_ok (Block a.0) c a.1.1) (ap (λ z. 98 ∷ z) f.0, f.1)
+block_there = one_there Block 98 (λ a. refl) (λ a h. h)
 
 end_there : (bs : List ℕ) (c : Command) → end_in bs ≡ Ok c → Said 101 bs c (field_rest bs)
 unfolding end_in
-end_there bs c e =
-    let a = then_from (field_in 65535 bs) (λ a. Ok (End a)) c e in
-    let f = field_there 65535 bs a.0 a.1.0 in
-    subst (λ (d : Command). Said 101 bs d (field_rest bs)) (same_ok (End a.0) c a.1.1) (ap (λ z. 101 ∷ z) f.0, f.1)
+end_there = one_there End 101 (λ a. refl) (λ a h. h)
 
 some_ticks : (n : ℕ) (c : Command) → cond (eqb n 0) (Err Unexpected) (Ok (Tick n)) ≡ Ok c → (1 ≤ n) × (Tick n ≡ c)
 some_ticks n c e = by (eqb n 0) refl e
@@ -145,6 +145,16 @@ ended_here r rest c ys p q = (
   ap (drop 1) q,
 )
 
+-- one field that was written is read
+one_read : (make : ℕ → Command) (a : ℕ) (ys : List ℕ) → a ≤ 65535
+    → (and_then (and_then (field_in 65535 (32 ∷ (decimal a ++ (10 ∷ ys)))) (λ b. Ok (make b)))
+    (λ d. and_then (expected 10 (field_rest (32 ∷ (decimal a ++ (10 ∷ ys))))) (λ _. Ok d)) ≡ Ok (make a))
+    × (drop 1 (field_rest (32 ∷ (decimal a ++ (10 ∷ ys)))) ≡ ys)
+one_read make a ys r =
+    let f = field_read 65535 a (10 ∷ ys) r (omega arith) refl in
+    let bs = 32 ∷ (decimal a ++ (10 ∷ ys)) in
+    ended_here (and_then (field_in 65535 bs) (λ b. Ok (make b))) (field_rest bs) (make a) ys (ap (λ z. and_then z (λ b. Ok (make b))) f.0) f.1
+
 chained : (bs : List ℕ) (s a : ℕ) (t d : ℤ) (e : ℕ) → field_in 65535 bs ≡ Ok s → field_in 65535 (field_rest bs) ≡ Ok a
     → signed_field_in (field_rest (field_rest bs)) ≡ Ok t → signed_field_in (signed_field_rest (field_rest (field_rest bs))) ≡ Ok d
     → field_in 65535 (signed_field_rest (signed_field_rest (field_rest (field_rest bs)))) ≡ Ok e → begin_in bs ≡ Ok (Begin s a t d e)
@@ -157,18 +167,9 @@ Read b bs c ys = (line_in (b ∷ bs) ≡ Ok c) × (line_rest (b ∷ bs) ≡ ys)
 -- a line that says a command is read
 pub line_read : (c : Command) (ys : List ℕ) → InRange c → (line_in (command_text c ++ (10 ∷ ys)) ≡ Ok c) × (line_rest (command_text c ++ (10 ∷ ys)) ≡ ys)
 unfolding line_in line_rest fields_in fields_rest wake_in block_in end_in tick_in open_in open_rest begin_in begin_rest
-line_read (Wake a) ys r =
-    let f = field_read 65535 a (10 ∷ ys) r (omega arith) refl in
-    let bs = 32 ∷ (decimal a ++ (10 ∷ ys)) in
-    ended_here (wake_in bs) (field_rest bs) (Wake a) ys (ap (λ z. and_then z (λ a. Ok (Wake a))) f.0) f.1
-line_read (Block a) ys r =
-    let f = field_read 65535 a (10 ∷ ys) r (omega arith) refl in
-    let bs = 32 ∷ (decimal a ++ (10 ∷ ys)) in
-    ended_here (block_in bs) (field_rest bs) (Block a) ys (ap (λ z. and_then z (λ a. Ok (Block a))) f.0) f.1
-line_read (End a) ys r =
-    let f = field_read 65535 a (10 ∷ ys) r (omega arith) refl in
-    let bs = 32 ∷ (decimal a ++ (10 ∷ ys)) in
-    ended_here (end_in bs) (field_rest bs) (End a) ys (ap (λ z. and_then z (λ a. Ok (End a))) f.0) f.1
+line_read (Wake a) ys r = one_read Wake a ys r
+line_read (Block a) ys r = one_read Block a ys r
+line_read (End a) ys r = one_read End a ys r
 line_read (Tick n) ys r =
     let f = field_read 9999 n (10 ∷ ys) r.1 (omega arith) refl in
     let bs = 32 ∷ (decimal n ++ (10 ∷ ys)) in
