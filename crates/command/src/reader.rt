@@ -1,6 +1,6 @@
 // A text and how far it is read: its bytes, numbers, spaces and ends of lines.
 ghost use Rattle.std.specs.Prelude.{◌≡◌, ℕ, ◌+◌, ◌-◌, ◌*◌, ◌<◌, ◌≤◌, Bool, true, false, [], length, drop, ℤ, is_ok, IfOk, if◌then◌else◌, ◌==◌, slice_index};
-ghost use Rattle.std.specs.List.{prefix_len};
+ghost use Rattle.std.specs.List.{prefix_len, AllPass};
 ghost use Rattle.command.specs.Reading.{is_digit, nat_after, fitting, first_of, number_in, past, Passes, GoesOn, expected, next_line, negated, posited, signed_in, signed_rest, field_in, field_rest, signed_field_in, signed_field_rest};
 
 use std::marker::Model;
@@ -40,7 +40,7 @@ fn run_len(text: &[u8]) -> usize
 
 // The number that digits write, where it has at most 32 bits.
 fn digits_value(digits: &[u8]) -> Option<u32>
-    requires { (k : ℕ) → k < length digits.now → is_digit (slice_index digits.now k) ≡ true }
+    requires { AllPass is_digit digits.now }
     ensures { result ≡ fitting (nat_after 0 digits.now) }
 {
     let mut value: u32 = 0;

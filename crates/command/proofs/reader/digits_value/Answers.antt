@@ -1,5 +1,5 @@
 use Rattle.std.proofs.Common.{◌≡◌, ℕ, ◌+◌, ◌-◌, ◌*◌, ◌<◌, ◌≤◌, List, [], ◌∷◌, length, get_or, drop, arith}
-use Rattle.std.proofs.lemmas.List.{at_drop_more, at_drop_all}
+use Rattle.std.proofs.lemmas.List.{at_drop_more}
 use Rattle.std.proofs.lemmas.Bool.Decides.{nat_tests}
 use Rattle.command.specs.Reading.{nat_after}
 use Rattle.command.proofs.reader.digits_value.Goals as goal
@@ -42,9 +42,3 @@ loop-d-preserved c =
     let before = c.loop-d.invariant.0 in
     (cc c.from.ensures, omega (arith, c.in_ok-value.ensures))
 
-pub returns : goal.returns
-returns c =
-    let e : nat_after c.loop-d.value (drop c.loop-d.d-index c.args.digits.now) ≡ c.loop-d.value =
-    at_drop_all (nat_after c.loop-d.value) c.args.digits.now c.loop-d.d-index (omega arith)
-    in
-    grind (arith, nat_tests)
