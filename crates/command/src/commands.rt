@@ -1,43 +1,43 @@
 // Lines read as commands.
-ghost use Rattle.std.specs.Prelude.{◌≡◌, ℕ, true, false, is_ok, if◌then◌else◌};
+ghost use Rattle.std.specs.Prelude.{◌≡◌, ℕ, true, false, is_ok, is_some, if◌then◌else◌};
 ghost use Rattle.command.specs.Reading.{GoesOn, open_in, open_rest, tick_in, begin_in, begin_rest, field_rest, fields_in, fields_rest, line_in, line_rest, next_line};
 ghost use Rattle.command.specs.Grammar.{Reads, ReadsNumbered, ReadOnce};
 
 use crate::command::{Command, ScriptFault};
-use crate::reader::{Reader, Slip};
+use crate::reader::Reader;
 
 impl Reader<'_> {
     // ` CLOCK R`
     #[tactic(auto, unfolding(crate::specs::Reading::open_in, crate::specs::Reading::open_rest))]
-    fn open_fields(&mut self) -> Result<Command, Slip>
+    fn open_fields(&mut self) -> Option<Command>
         ensures value { result ≡ open_in self.old.rest }
         ensures after { GoesOn result self.old (open_rest self.old.rest) self.new }
     {
         let clock = self.signed_field()?;
-        let repeats = u8::try_from(self.field(255)?).map_err(|_| Slip::Unexpected)?;
-        Ok(Command::Open { clock, repeats })
+        let repeats = u8::try_from(self.field(255)?).ok()?;
+        Some(Command::Open { clock, repeats })
     }
 
     // ` N`
     #[tactic(auto, unfolding(crate::specs::Reading::tick_in))]
-    fn tick_fields(&mut self) -> Result<Command, Slip>
+    fn tick_fields(&mut self) -> Option<Command>
         ensures value { result ≡ tick_in self.old.rest }
         ensures after { GoesOn result self.old (field_rest self.old.rest) self.new }
     {
         let count = self.field(9999)?;
         if count == 0 {
-            return Err(Slip::Unexpected);
+            return None;
         }
-        Ok(Command::Tick { count })
+        Some(Command::Tick { count })
     }
 
     // ` SEAT A START DEADLINE E`
     #[tactic(auto, unfolding(crate::specs::Reading::begin_in, crate::specs::Reading::begin_rest))]
-    fn begin_fields(&mut self) -> Result<Command, Slip>
+    fn begin_fields(&mut self) -> Option<Command>
         ensures value { result ≡ begin_in self.old.rest }
         ensures after { GoesOn result self.old (begin_rest self.old.rest) self.new }
     {
-        Ok(Command::Begin {
+        Some(Command::Begin {
             seat: self.field(u16::MAX)?,
             activity: self.field(u16::MAX)?,
             start: self.signed_field()?,
@@ -48,38 +48,38 @@ impl Reader<'_> {
 
     // The fields behind a letter, and the command that they make.
     #[tactic(auto, unfolding(crate::specs::Reading::fields_in, crate::specs::Reading::fields_rest, crate::specs::Reading::wake_in, crate::specs::Reading::block_in, crate::specs::Reading::end_in))]
-    fn fields(&mut self, letter: u8) -> Result<Command, Slip>
+    fn fields(&mut self, letter: u8) -> Option<Command>
         ensures value { result ≡ fields_in letter self.old.rest }
         ensures after { GoesOn result self.old (fields_rest letter self.old.rest) self.new }
     {
         match letter as char {
             'o' => self.open_fields(),
-            'w' => Ok(Command::Wake {
+            'w' => Some(Command::Wake {
                 activity: self.field(u16::MAX)?,
             }),
-            'b' => Ok(Command::Block {
+            'b' => Some(Command::Block {
                 activity: self.field(u16::MAX)?,
             }),
             't' => self.tick_fields(),
             'c' => self.begin_fields(),
-            'e' => Ok(Command::End {
+            'e' => Some(Command::End {
                 seat: self.field(u16::MAX)?,
             }),
-            _ => Err(Slip::Unexpected),
+            _ => None,
         }
     }
 
     // A whole line: a letter, its fields and byte 10.
     #[tactic(auto, unfolding(crate::specs::Reading::line_in, crate::specs::Reading::line_rest))]
-    fn read_line(&mut self) -> Result<Command, Slip>
+    fn read_line(&mut self) -> Option<Command>
         ensures value { result ≡ line_in self.old.rest }
-        ensures after { is_ok result ≡ true → self.new.rest ≡ line_rest self.old.rest }
-        ensures line { self.new.line ≡ (if is_ok result then next_line self.old.line else self.old.line) }
+        ensures after { is_some result ≡ true → self.new.rest ≡ line_rest self.old.rest }
+        ensures line { self.new.line ≡ (if is_some result then next_line self.old.line else self.old.line) }
     {
-        let letter = self.next_byte().ok_or(Slip::Unexpected)?;
+        let letter = self.next_byte()?;
         let command = self.fields(letter)?;
         self.line_end()?;
-        Ok(command)
+        Some(command)
     }
 
     /// The command that the next line says; the reader stands behind the line's byte 10 then. Where the text goes on with no line of a
@@ -90,8 +90,7 @@ impl Reader<'_> {
         ensures once { ReadOnce }
     {
         let line = self.line();
-        self.read_line()
-            .map_err(|_| ScriptFault::Malformed { line })
+        self.read_line().ok_or(ScriptFault::Malformed { line })
     }
 
     /// The same, with the line's number beside its command.

@@ -1,15 +1,9 @@
 // A text and how far it is read: its bytes, numbers, spaces and ends of lines.
-ghost use Rattle.std.specs.Prelude.{◌≡◌, ℕ, ◌+◌, ◌-◌, ◌*◌, ◌<◌, ◌≤◌, Bool, true, false, [], length, drop, ℤ, is_ok, IfOk, if◌then◌else◌, ◌==◌, slice_index};
+ghost use Rattle.std.specs.Prelude.{◌≡◌, ℕ, ◌+◌, ◌-◌, ◌*◌, ◌<◌, ◌≤◌, Bool, true, false, [], length, drop, ℤ, is_some, IfSome, if◌then◌else◌, ◌==◌, slice_index};
 ghost use Rattle.std.specs.List.{prefix_len, AllPass};
-ghost use Rattle.command.specs.Reading.{is_digit, nat_after, fitting, first_of, number_in, past, Passes, GoesOn, expected, next_line, negated, posited, signed_in, signed_rest, field_in, field_rest, signed_field_in, signed_field_rest};
+ghost use Rattle.command.specs.Reading.{is_digit, nat_after, fitting, first_of, number_in, past, Passes, GoesOn, expected, next_line, negated, signed_in, signed_rest, field_in, field_rest, signed_field_in, signed_field_rest};
 
 use std::marker::Model;
-
-// What is found where something else has to stand. An `Option` would be no plainer: that a byte is refused is an error, and `?` passes both on alike.
-#[derive(Clone, Copy)]
-pub(crate) enum Slip {
-    Unexpected,
-}
 
 /// The bytes of a script, the place up to which they are read, and the number of the line there, counted from 1.
 #[derive(Drop)]
@@ -52,20 +46,13 @@ fn digits_value(digits: &[u8]) -> Option<u32>
 }
 
 // A number with a minus before it, of 32 bits with its sign; there is no minus before 0.
-fn below_zero(size: u32) -> Result<i32, Slip>
+fn below_zero(size: u32) -> Option<i32>
     ensures { result ≡ negated size }
 {
     if size == 0 {
-        return Err(Slip::Unexpected);
+        return None;
     }
-    i32::try_from(-i64::from(size)).map_err(|_| Slip::Unexpected)
-}
-
-// A number with no minus, of 32 bits with its sign.
-fn above_zero(size: u32) -> Result<i32, Slip>
-    ensures { result ≡ posited size }
-{
-    i32::try_from(size).map_err(|_| Slip::Unexpected)
+    i32::try_from(-i64::from(size)).ok()
 }
 
 impl<'a> Reader<'a> {
@@ -128,7 +115,7 @@ impl<'a> Reader<'a> {
     }
 
     // A number of at most 32 bits, with no leading zero, passed over where it is good.
-    fn number(&mut self) -> Result<u32, Slip>
+    fn number(&mut self) -> Option<u32>
         ensures value { result ≡ number_in self.old.rest }
         ensures after { Passes result (prefix_len is_digit self.old.rest) self.old self.new }
     {
@@ -136,67 +123,63 @@ impl<'a> Reader<'a> {
         let size = run_len(rest);
         let digits = &rest[..size];
         if matches!(digits, [] | [b'0', _, ..]) {
-            return Err(Slip::Unexpected);
+            return None;
         }
-        let value = digits_value(digits).ok_or(Slip::Unexpected)?;
+        let value = digits_value(digits)?;
         self.pass(size);
-        Ok(value)
+        Some(value)
     }
 
     // One byte that has to stand here.
-    fn expect(&mut self, byte: u8) -> Result<(), Slip>
+    fn expect(&mut self, byte: u8) -> Option<()>
         ensures value { result ≡ expected byte self.old.rest }
         ensures after { Passes result 1 self.old self.new }
     {
         if self.rest().first() != Some(&byte) {
-            return Err(Slip::Unexpected);
+            return None;
         }
         self.pass(1);
-        Ok(())
+        Some(())
     }
 
     // The end of a line, byte 10; the line that follows has the next number.
-    pub(crate) fn line_end(&mut self) -> Result<(), Slip>
+    pub(crate) fn line_end(&mut self) -> Option<()>
         ensures value { result ≡ expected 10 self.old.rest }
         ensures after { self.new.rest ≡ past result 1 self.old.rest }
-        ensures line { self.new.line ≡ (if is_ok result then next_line self.old.line else self.old.line) }
+        ensures line { self.new.line ≡ (if is_some result then next_line self.old.line else self.old.line) }
     {
         self.expect(b'\n')?;
         self.line = self.line.saturating_add(1);
-        Ok(())
+        Some(())
     }
 
     // A number that may have a minus before it.
-    fn signed_number(&mut self) -> Result<i32, Slip>
+    fn signed_number(&mut self) -> Option<i32>
         ensures value { result ≡ signed_in self.old.rest }
         ensures after { GoesOn result self.old (signed_rest self.old.rest) self.new }
     {
-        if self.expect(b'-').is_ok() {
-            let size = self.number()?;
-            return below_zero(size);
+        if self.expect(b'-').is_some() {
+            below_zero(self.number()?)
+        } else {
+            i32::try_from(self.number()?).ok()
         }
-        let size = self.number()?;
-        above_zero(size)
     }
 
     // A space, and behind it a number that is not above `most`.
     #[tactic(auto, unfolding(crate::specs::Reading::field_in, crate::specs::Reading::field_rest))]
-    pub(crate) fn field(&mut self, most: u16) -> Result<u16, Slip>
+    pub(crate) fn field(&mut self, most: u16) -> Option<u16>
         ensures value { result ≡ field_in most self.old.rest }
-        ensures within { IfOk result (λ n. n ≤ most) }
+        ensures within { IfSome result (λ n. n ≤ most) }
         ensures after { GoesOn result self.old (field_rest self.old.rest) self.new }
     {
         self.expect(b' ')?;
         let n = self.number()?;
-        u16::try_from(n)
-            .ok()
-            .filter(|n| *n <= most)
-            .ok_or(Slip::Unexpected)
+        u16::try_from(n).ok().filter(|n| *n <= most)
     }
 
     // A space, and behind it a number that may have a minus.
     #[tactic(auto, unfolding(crate::specs::Reading::signed_field_in, crate::specs::Reading::signed_field_rest))]
-    pub(crate) fn signed_field(&mut self) -> Result<i32, Slip>
+    pub(crate) fn signed_field(&mut self) -> Option<i32>
         ensures value { result ≡ signed_field_in self.old.rest }
         ensures after { GoesOn result self.old (signed_field_rest self.old.rest) self.new }
     {

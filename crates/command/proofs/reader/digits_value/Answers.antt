@@ -41,4 +41,3 @@ loop-d-preserved c =
     let v = c.in_ok-value.ensures.1 in
     let before = c.loop-d.invariant.0 in
     (cc c.from.ensures, omega (arith, c.in_ok-value.ensures))
-

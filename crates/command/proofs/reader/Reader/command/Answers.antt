@@ -4,7 +4,7 @@ use Rattle.command.proofs.reader.Reader.command.Goals as goal
 
 pub returns-clause-reads : goal.returns-clause-reads
 returns-clause-reads c =
-    line_reads _ _ _ c.read_line.result _ c.read_line.ensures.value c.read_line.ensures.after (λ d e. search rules) (λ s e. search rules)
+    line_reads _ _ _ c.read_line.result _ c.read_line.ensures.value c.read_line.ensures.after (λ d e. search rules) (λ e. search rules)
 
 pub returns-clause-once : goal.returns-clause-once
 returns-clause-once c = read_once
