@@ -1,4 +1,3 @@
-mod Passes
 mod Numerals
 mod Lines
 pub mod Says

@@ -1,34 +1,32 @@
 -- Lines read back are those that were written: fields.
-use Rattle.std.proofs.Common.{◌≡◌, ℕ, zero, suc, ◌<◌, ◌≤◌, Bool, true, false, cond, eqb, ltb, leb, List, [], ◌∷◌, ◌++◌, get_or, drop, ℤ, pos, negsuc, neg_ℤ, Ok, Err, decimal, Result, sym, refl, ap, ◌∙◌, subst, ⊎_elim, arith}
+use Rattle.std.proofs.Common.{◌≡◌, ℕ, zero, suc, ◌<◌, ◌≤◌, Bool, true, false, cond, eqb, ltb, leb, List, [], ◌∷◌, ◌++◌, get_or, drop, ℤ, pos, negsuc, neg_ℤ, Some, None, decimal, Option, sym, refl, ap, ◌∙◌, subst, ⊎_elim, arith}
 use Rattle.std.specs.Fmt.{signed_decimal}
 use Rattle.std.proofs.lemmas.Fmt.{decimal_nonempty, first_decimal, decimal_digit}
 use Rattle.std.proofs.lemmas.List.{get_or_append_left}
 use Rattle.std.proofs.lemmas.Bool.{cond-true, cond-false, le-leb, lt-ltb, cases_lt}
 use Rattle.std.proofs.lemmas.Bool.Decides.{nat_tests}
 use Rattle.std.proofs.lemmas.Int.{ints}
-use Rattle.command.specs.declared.reader.Slip.{Slip}
-use Rattle.command.specs.declared.reader.Slip.TheVariants.{Unexpected}
 use Rattle.command.specs.Grammar.{Signed32}
 use Rattle.command.specs.Reading.{behind, number_in, and_then, expected, up_to, negated, posited, signed_in, signed_rest, field_in, field_rest, signed_field_in, signed_field_rest}
 use Rattle.command.proofs.Numerals.{Ended, slipped, then_from, number_there, number_read}
 
 -- the byte that has to stand here does
-pub byte_there : (b : ℕ) (xs : List ℕ) → expected b xs ≡ Ok tt → xs ≡ b ∷ drop 1 xs
-byte_there b [] e = absurd (slipped tt Unexpected e)
+pub byte_there : (b : ℕ) (xs : List ℕ) → expected b xs ≡ Some tt → xs ≡ b ∷ drop 1 xs
+byte_there b [] e = absurd (slipped tt e)
 byte_there b (x ∷ xs) e = by (eqb x b) refl e
   where
-    by : (t : Bool) → eqb x b ≡ t → ◌≡◌ {A = Result (Unit {0}) Slip} (cond t (Ok tt) (Err Unexpected)) (Ok tt) → x ∷ xs ≡ b ∷ xs
+    by : (t : Bool) → eqb x b ≡ t → ◌≡◌ {A = Option (Unit {0})} (cond t (Some tt) None) (Some tt) → x ∷ xs ≡ b ∷ xs
     by true h e = ap (λ z. z ∷ xs) (grind (arith, nat_tests))
-    by false h e = absurd (slipped tt Unexpected e)
+    by false h e = absurd (slipped tt e)
 
-up_to_lem : (most n m : ℕ) → up_to most n ≡ Ok m → (n ≡ m) × (m ≤ most)
+up_to_lem : (most n m : ℕ) → up_to most n ≡ Some m → (n ≡ m) × (m ≤ most)
 up_to_lem most n m e = by (leb n most) refl e
   where
-    by : (t : Bool) → leb n most ≡ t → cond t (Ok n) (Err Unexpected) ≡ Ok m → (n ≡ m) × (m ≤ most)
+    by : (t : Bool) → leb n most ≡ t → cond t (Some n) None ≡ Some m → (n ≡ m) × (m ≤ most)
     by true h e = let same : n ≡ m = cc in (same, grind (arith, nat_tests))
-    by false h e = absurd (slipped m Unexpected e)
+    by false h e = absurd (slipped m e)
 
-pub field_there : (most : ℕ) (xs : List ℕ) (n : ℕ) → field_in most xs ≡ Ok n → (xs ≡ 32 ∷ (decimal n ++ field_rest xs)) × (n ≤ most)
+pub field_there : (most : ℕ) (xs : List ℕ) (n : ℕ) → field_in most xs ≡ Some n → (xs ≡ 32 ∷ (decimal n ++ field_rest xs)) × (n ≤ most)
 unfolding field_in field_rest
 field_there most xs n e =
     let a = then_from (expected 32 xs) (λ _. and_then (number_in (drop 1 xs)) (up_to most)) n e in
@@ -40,7 +38,7 @@ field_there most xs n e =
     )
 
 pub field_read : (most n : ℕ) (ys : List ℕ) → n ≤ most → n < 4294967296 → Ended ys
-    → (field_in most (32 ∷ (decimal n ++ ys)) ≡ Ok n) × (field_rest (32 ∷ (decimal n ++ ys)) ≡ ys)
+    → (field_in most (32 ∷ (decimal n ++ ys)) ≡ Some n) × (field_rest (32 ∷ (decimal n ++ ys)) ≡ ys)
 unfolding field_in field_rest
 field_read most n ys within small e =
     let r = number_read n ys small e in (
@@ -49,36 +47,36 @@ field_read most n ys within small e =
     )
 
 -- a minus, and what is read behind it
-negative : (n : ℕ) (t : ℤ) → negated n ≡ Ok t → (signed_decimal t ≡ 45 ∷ decimal n) × Signed32 t
-negative zero t e = absurd (slipped t Unexpected e)
+negative : (n : ℕ) (t : ℤ) → negated n ≡ Some t → (signed_decimal t ≡ 45 ∷ decimal n) × Signed32 t
+negative zero t e = absurd (slipped t e)
 negative (suc m) t e = by (eqb (suc m) 0) (leb (suc m) 2147483648) refl e
   where
-    by : (a b : Bool) → leb (suc m) 2147483648 ≡ b → cond a (Err Unexpected) (cond b (Ok (neg_ℤ (pos (suc m)))) (Err Unexpected)) ≡ Ok t → (signed_decimal t ≡ 45 ∷ decimal (suc m)) × Signed32 t
-    by true b h e = absurd (slipped t Unexpected e)
+    by : (a b : Bool) → leb (suc m) 2147483648 ≡ b → cond a None (cond b (Some (neg_ℤ (pos (suc m)))) None) ≡ Some t → (signed_decimal t ≡ 45 ∷ decimal (suc m)) × Signed32 t
+    by true b h e = absurd (slipped t e)
     by false true h e =
         let same : negsuc m ≡ t = cc in
         let small : m < 2147483648 = grind (arith, nat_tests) in
         subst (λ (z : ℤ). (signed_decimal z ≡ 45 ∷ decimal (suc m)) × Signed32 z) same (refl, (omega (arith, ints), omega (arith, ints)))
-    by false false h e = absurd (slipped t Unexpected e)
+    by false false h e = absurd (slipped t e)
 
-positive : (n : ℕ) (t : ℤ) → posited n ≡ Ok t → (signed_decimal t ≡ decimal n) × Signed32 t
+positive : (n : ℕ) (t : ℤ) → posited n ≡ Some t → (signed_decimal t ≡ decimal n) × Signed32 t
 positive n t e = by (ltb n 2147483648) refl e
   where
-    by : (b : Bool) → ltb n 2147483648 ≡ b → cond b (Ok (pos n)) (Err Unexpected) ≡ Ok t → (signed_decimal t ≡ decimal n) × Signed32 t
+    by : (b : Bool) → ltb n 2147483648 ≡ b → cond b (Some (pos n)) None ≡ Some t → (signed_decimal t ≡ decimal n) × Signed32 t
     by true h e =
         let same : pos n ≡ t = cc in
         let small : n < 2147483648 = grind (arith, nat_tests) in
         subst (λ (z : ℤ). (signed_decimal z ≡ decimal n) × Signed32 z) same (refl, (omega (arith, ints), omega (arith, ints)))
-    by false h e = absurd (slipped t Unexpected e)
+    by false h e = absurd (slipped t e)
 
 led : (xs : List ℕ) (b : ℕ) → 0 < b → get_or xs 0 0 ≡ b → xs ≡ b ∷ drop 1 xs
 led [] b h e = absurd (omega arith)
 led (x ∷ xs) b h e = ap (λ z. z ∷ xs) e
 
-pub signed_there : (xs : List ℕ) (t : ℤ) → signed_in xs ≡ Ok t → (xs ≡ signed_decimal t ++ signed_rest xs) × Signed32 t
+pub signed_there : (xs : List ℕ) (t : ℤ) → signed_in xs ≡ Some t → (xs ≡ signed_decimal t ++ signed_rest xs) × Signed32 t
 signed_there xs t e = by (eqb (get_or xs 0 0) 45) refl e
   where
-    by : (b : Bool) → eqb (get_or xs 0 0) 45 ≡ b → cond b (and_then (number_in (drop 1 xs)) negated) (and_then (number_in xs) posited) ≡ Ok t
+    by : (b : Bool) → eqb (get_or xs 0 0) 45 ≡ b → cond b (and_then (number_in (drop 1 xs)) negated) (and_then (number_in xs) posited) ≡ Some t
         → (xs ≡ signed_decimal t ++ cond b (behind (drop 1 xs)) (behind xs)) × Signed32 t
     by true h e =
         let a = then_from (number_in (drop 1 xs)) negated t e in
@@ -101,7 +99,7 @@ unsigned n ys small =
     ⊎_elim (λ l. let one = ap (λ z. get_or z 0 0) (decimal_digit n (omega arith)) in grind (arith, nat_tests))
     (λ g. let high = first_decimal n (omega arith) (omega arith) in grind (arith, nat_tests)) (cases_lt n 1)
 
-pub signed_read : (t : ℤ) (ys : List ℕ) → Signed32 t → Ended ys → (signed_in (signed_decimal t ++ ys) ≡ Ok t) × (signed_rest (signed_decimal t ++ ys) ≡ ys)
+pub signed_read : (t : ℤ) (ys : List ℕ) → Signed32 t → Ended ys → (signed_in (signed_decimal t ++ ys) ≡ Some t) × (signed_rest (signed_decimal t ++ ys) ≡ ys)
 signed_read (pos n) ys r e =
     let small : n < 2147483648 = omega (arith, ints, r.1) in
     let u = unsigned n ys (omega arith) in
@@ -117,7 +115,7 @@ signed_read (negsuc n) ys r e =
       there.1,
     )
 
-pub signed_field_there : (xs : List ℕ) (t : ℤ) → signed_field_in xs ≡ Ok t → (xs ≡ 32 ∷ (signed_decimal t ++ signed_field_rest xs)) × Signed32 t
+pub signed_field_there : (xs : List ℕ) (t : ℤ) → signed_field_in xs ≡ Some t → (xs ≡ 32 ∷ (signed_decimal t ++ signed_field_rest xs)) × Signed32 t
 unfolding signed_field_in signed_field_rest
 signed_field_there xs t e =
     let a = then_from (expected 32 xs) (λ _. signed_in (drop 1 xs)) t e in
@@ -125,6 +123,6 @@ signed_field_there xs t e =
     (byte_there 32 xs a.1.0 ∙ ap (λ z. 32 ∷ z) there.0, there.1)
 
 pub signed_field_read : (t : ℤ) (ys : List ℕ) → Signed32 t → Ended ys
-    → (signed_field_in (32 ∷ (signed_decimal t ++ ys)) ≡ Ok t) × (signed_field_rest (32 ∷ (signed_decimal t ++ ys)) ≡ ys)
+    → (signed_field_in (32 ∷ (signed_decimal t ++ ys)) ≡ Some t) × (signed_field_rest (32 ∷ (signed_decimal t ++ ys)) ≡ ys)
 unfolding signed_field_in signed_field_rest
 signed_field_read t ys r e = signed_read t ys r e

@@ -1,3 +1,4 @@
+pub mod Unread
 pub mod Grammar
 pub mod Reading
 pub mod Openings

@@ -5,12 +5,11 @@ use Rattle.command.specs.declared.command.ScriptFault.{ScriptFault}
 use Rattle.command.specs.declared.command.ScriptFault.TheVariants.{Malformed}
 use Rattle.command.specs.declared.opening.Opening.{Opening}
 use Rattle.command.specs.Grammar.{Begins}
-use Rattle.command.specs.Reading.{rest}
 
 -- it opens a level, and the reader stands behind it
 pub record FirstLine (script : List ℕ) (o : Opening) : Type 0 where
   pub short : length script ≤ 16384
-  pub says : Begins script (Open o.clock o.repeats) (rest o.reader)
+  pub says : Begins script (Open o.clock o.repeats) o.reader.rest
   pub line : o.reader.line ≡ 2
 
 -- a script that is too long, or begins with no line that opens

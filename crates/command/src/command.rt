@@ -2,6 +2,8 @@
 ghost use Rattle.std.specs.Prelude.{◌≡◌, ℕ};
 ghost use Rattle.command.specs.Grammar.{script_number, fault_line};
 
+use thiserror::Error;
+
 /// What one line of a script says.
 #[derive(Clone, Copy, PartialEq, Eq, Debug)]
 pub enum Command {
@@ -37,9 +39,10 @@ pub enum Command {
 }
 
 /// Why a script is not read on.
-#[derive(Clone, Copy, PartialEq, Eq, Debug)]
+#[derive(Clone, Copy, PartialEq, Eq, Debug, Error)]
 pub enum ScriptFault {
     /// 35: this line, counted from 1, is malformed.
+    #[error("35: line {line} is malformed")]
     Malformed { line: u32 },
 }
 

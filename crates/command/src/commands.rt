@@ -1,151 +1,107 @@
 // Lines read as commands.
-ghost use Rattle.std.specs.Prelude.{◌≡◌, ℕ, true, false, is_ok, if◌then◌else◌};
-ghost use Rattle.command.specs.Reading.{rest, open_in, open_rest, wake_in, block_in, tick_in, begin_in, begin_rest, end_in, field_rest, fields_in, fields_rest, line_in, line_rest, next_line};
+ghost use Rattle.std.specs.Prelude.{◌≡◌, ℕ, true, false, is_ok, is_some, if◌then◌else◌};
+ghost use Rattle.command.specs.Reading.{GoesOn, open_in, open_rest, tick_in, begin_in, begin_rest, field_rest, fields_in, fields_rest, line_in, line_rest, next_line};
 ghost use Rattle.command.specs.Grammar.{Reads, ReadsNumbered, ReadOnce};
 
 use crate::command::{Command, ScriptFault};
-use crate::reader::{Reader, Slip};
+use crate::reader::Reader;
 
 impl Reader<'_> {
     // ` CLOCK R`
-    fn open_fields(&mut self) -> Result<Command, Slip>
-        ensures value { result ≡ open_in (rest self.old) }
-        ensures after { is_ok result ≡ true → rest self.new ≡ open_rest (rest self.old) }
-        ensures line { self.new.line ≡ self.old.line }
+    #[tactic(auto, unfolding(crate::specs::Reading::open_in, crate::specs::Reading::open_rest))]
+    fn open_fields(&mut self) -> Option<Command>
+        ensures value { result ≡ open_in self.old.rest }
+        ensures after { GoesOn result self.old (open_rest self.old.rest) self.new }
     {
         let clock = self.signed_field()?;
-        let repeats = self.field(255)?;
-        Ok(Command::Open {
-            clock,
-            repeats: repeats as u8,
-        })
-    }
-
-    // ` A`
-    fn wake_fields(&mut self) -> Result<Command, Slip>
-        ensures value { result ≡ wake_in (rest self.old) }
-        ensures after { is_ok result ≡ true → rest self.new ≡ field_rest (rest self.old) }
-        ensures line { self.new.line ≡ self.old.line }
-    {
-        let activity = self.field(65535)?;
-        Ok(Command::Wake {
-            activity: activity as u16,
-        })
-    }
-
-    // ` A`
-    fn block_fields(&mut self) -> Result<Command, Slip>
-        ensures value { result ≡ block_in (rest self.old) }
-        ensures after { is_ok result ≡ true → rest self.new ≡ field_rest (rest self.old) }
-        ensures line { self.new.line ≡ self.old.line }
-    {
-        let activity = self.field(65535)?;
-        Ok(Command::Block {
-            activity: activity as u16,
-        })
+        let repeats = u8::try_from(self.field(255)?).ok()?;
+        Some(Command::Open { clock, repeats })
     }
 
     // ` N`
-    fn tick_fields(&mut self) -> Result<Command, Slip>
-        ensures value { result ≡ tick_in (rest self.old) }
-        ensures after { is_ok result ≡ true → rest self.new ≡ field_rest (rest self.old) }
-        ensures line { self.new.line ≡ self.old.line }
+    #[tactic(auto, unfolding(crate::specs::Reading::tick_in))]
+    fn tick_fields(&mut self) -> Option<Command>
+        ensures value { result ≡ tick_in self.old.rest }
+        ensures after { GoesOn result self.old (field_rest self.old.rest) self.new }
     {
         let count = self.field(9999)?;
         if count == 0 {
-            return Err(Slip::Unexpected);
+            return None;
         }
-        Ok(Command::Tick {
-            count: count as u16,
-        })
-    }
-
-    // ` SEAT`
-    fn end_fields(&mut self) -> Result<Command, Slip>
-        ensures value { result ≡ end_in (rest self.old) }
-        ensures after { is_ok result ≡ true → rest self.new ≡ field_rest (rest self.old) }
-        ensures line { self.new.line ≡ self.old.line }
-    {
-        let seat = self.field(65535)?;
-        Ok(Command::End { seat: seat as u16 })
+        Some(Command::Tick { count })
     }
 
     // ` SEAT A START DEADLINE E`
-    fn begin_fields(&mut self) -> Result<Command, Slip>
-        ensures value { result ≡ begin_in (rest self.old) }
-        ensures after { is_ok result ≡ true → rest self.new ≡ begin_rest (rest self.old) }
-        ensures line { self.new.line ≡ self.old.line }
+    #[tactic(auto, unfolding(crate::specs::Reading::begin_in, crate::specs::Reading::begin_rest))]
+    fn begin_fields(&mut self) -> Option<Command>
+        ensures value { result ≡ begin_in self.old.rest }
+        ensures after { GoesOn result self.old (begin_rest self.old.rest) self.new }
     {
-        let seat = self.field(65535)?;
-        let activity = self.field(65535)?;
-        let start = self.signed_field()?;
-        let deadline = self.signed_field()?;
-        let estimate = self.field(65535)?;
-        Ok(Command::Begin {
-            seat: seat as u16,
-            activity: activity as u16,
-            start,
-            deadline,
-            estimate: estimate as u16,
+        Some(Command::Begin {
+            seat: self.field(u16::MAX)?,
+            activity: self.field(u16::MAX)?,
+            start: self.signed_field()?,
+            deadline: self.signed_field()?,
+            estimate: self.field(u16::MAX)?,
         })
     }
 
     // The fields behind a letter, and the command that they make.
-    fn fields(&mut self, letter: u8) -> Result<Command, Slip>
-        ensures value { result ≡ fields_in letter (rest self.old) }
-        ensures after { is_ok result ≡ true → rest self.new ≡ fields_rest letter (rest self.old) }
-        ensures line { self.new.line ≡ self.old.line }
+    #[tactic(auto, unfolding(crate::specs::Reading::fields_in, crate::specs::Reading::fields_rest, crate::specs::Reading::wake_in, crate::specs::Reading::block_in, crate::specs::Reading::end_in))]
+    fn fields(&mut self, letter: u8) -> Option<Command>
+        ensures value { result ≡ fields_in letter self.old.rest }
+        ensures after { GoesOn result self.old (fields_rest letter self.old.rest) self.new }
     {
         match letter as char {
             'o' => self.open_fields(),
-            'w' => self.wake_fields(),
-            'b' => self.block_fields(),
+            'w' => Some(Command::Wake {
+                activity: self.field(u16::MAX)?,
+            }),
+            'b' => Some(Command::Block {
+                activity: self.field(u16::MAX)?,
+            }),
             't' => self.tick_fields(),
             'c' => self.begin_fields(),
-            'e' => self.end_fields(),
-            _ => Err(Slip::Unexpected),
+            'e' => Some(Command::End {
+                seat: self.field(u16::MAX)?,
+            }),
+            _ => None,
         }
     }
 
     // A whole line: a letter, its fields and byte 10.
-    fn read_line(&mut self) -> Result<Command, Slip>
-        ensures value { result ≡ line_in (rest self.old) }
-        ensures after { is_ok result ≡ true → rest self.new ≡ line_rest (rest self.old) }
-        ensures line { self.new.line ≡ (if is_ok result then next_line self.old.line else self.old.line) }
+    #[tactic(auto, unfolding(crate::specs::Reading::line_in, crate::specs::Reading::line_rest))]
+    fn read_line(&mut self) -> Option<Command>
+        ensures value { result ≡ line_in self.old.rest }
+        ensures after { is_some result ≡ true → self.new.rest ≡ line_rest self.old.rest }
+        ensures line { self.new.line ≡ (if is_some result then next_line self.old.line else self.old.line) }
     {
-        let Some(letter) = self.next_byte() else {
-            return Err(Slip::Unexpected);
-        };
+        let letter = self.next_byte()?;
         let command = self.fields(letter)?;
         self.line_end()?;
-        Ok(command)
+        Some(command)
     }
 
     /// The command that the next line says; the reader stands behind the line's byte 10 then. Where the text goes on with no line of a
     /// command, the line is malformed.
     pub fn command(&mut self) -> Result<Command, ScriptFault>
-        ensures reads { Reads (rest self.old) self.old.line result (rest self.new) }
+        ensures reads { Reads self.old.rest self.old.line result self.new.rest }
         ensures line { self.new.line ≡ (if is_ok result then next_line self.old.line else self.old.line) }
         ensures once { ReadOnce }
     {
-        let line = self.line;
-        match self.read_line() {
-            Ok(command) => Ok(command),
-            Err(_) => Err(ScriptFault::Malformed { line }),
-        }
+        let line = self.line();
+        self.read_line().ok_or(ScriptFault::Malformed { line })
     }
 
     /// The same, with the line's number beside its command.
     pub fn numbered_command(&mut self) -> Result<(u32, Command), ScriptFault>
-        ensures reads { ReadsNumbered (rest self.old) self.old.line result (rest self.new) }
+        ensures reads { ReadsNumbered self.old.rest self.old.line result self.new.rest }
         ensures line { is_ok result ≡ true → self.new.line ≡ next_line self.old.line }
         ensures stays { is_ok result ≡ false → self.new.line ≡ self.old.line }
         ensures once { ReadOnce }
     {
-        let line = self.line;
-        match self.command() {
-            Ok(command) => Ok((line, command)),
-            Err(fault) => Err(fault),
-        }
+        let line = self.line();
+        let command = self.command()?;
+        Ok((line, command))
     }
 }

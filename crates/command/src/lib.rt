@@ -1,5 +1,5 @@
 // Scripts of a rehearsal: their commands, and a reader that goes through a script line by line.
-// It uses no other crate. What the lines of a script say stands in specs/Grammar.antt.
+// It uses `thiserror`, for the text of a refusal. What the lines of a script say stands in specs/Grammar.antt.
 #![tactic(auto)]
 
 pub mod command;

@@ -24,13 +24,12 @@ pub fn read_opening(script: &[u8]) -> Result<Opening<'_>, ScriptFault>
         return Err(ScriptFault::Malformed { line: 1 });
     }
     let mut reader = Reader::new(script);
-    match reader.command() {
-        Ok(Command::Open { clock, repeats }) => Ok(Opening {
+    match reader.command()? {
+        Command::Open { clock, repeats } => Ok(Opening {
             clock,
             repeats,
             reader,
         }),
-        Ok(_) => Err(ScriptFault::Malformed { line: 1 }),
-        Err(_) => Err(ScriptFault::Malformed { line: 1 }),
+        _ => Err(ScriptFault::Malformed { line: 1 }),
     }
 }

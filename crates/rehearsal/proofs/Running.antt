@@ -8,8 +8,7 @@ use Rattle.command.specs.Grammar.{InRange, command_text, Begins}
 use Rattle.row.specs.declared.row.Row.{Row}
 use Rattle.row.specs.declared.row.Row.TheVariants.{Ran, Began, Ended, BeginRefused, EndRefused, WakeRefused, BlockRefused, TickRefused, Malformed}
 use Rattle.row.specs.Rows.{row_text}
-use Rattle.row.specs.declared.buffer.RowBuffer.{RowBuffer}
-use Rattle.row.specs.Buffers.{waiting, Flushes}
+use Rattle.row.specs.Buffers.{Flushes}
 use Rattle.row.specs.Sinks.{rows_text, Handed, nothing, more}
 use Rattle.rehearsal.specs.declared.rehearsal.Progress.{Progress}
 use Rattle.rehearsal.specs.declared.rehearsal.Progress.TheVariants.{Told, Over}
@@ -159,7 +158,7 @@ module _ {R S F : Type 0} {rs : SpareRules R} {hands : S → List ℕ → Result
     }
 
     -- all is told, and what waits is flushed
-    pub finishes : (v : Standing R) → RunsOn rs u Over v → (b b' : RowBuffer) → waits ≡ waiting b → (r : Result (Unit {0}) F) (k'' : S) → Flushes hands k' b r k'' b' → Runs rs hands s k r v k''
+    pub finishes : (v : Standing R) → RunsOn rs u Over v → (b b' : List ℕ) → waits ≡ b → (r : Result (Unit {0}) F) (k'' : S) → Flushes hands k' b r k'' b' → Runs rs hands s k r v k''
     finishes v g b b' e (Ok x) k'' h = ends v g k'' (subst (λ (z : List ℕ). hands k' z (Ok tt) k'') (sym e) h.0)
     finishes v g b b' e (Err fault) k'' h = ends_broken v g fault k'' (subst (λ (z : List ℕ). hands k' z (Err fault) k'') (sym e) h.0)
 

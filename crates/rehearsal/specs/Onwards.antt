@@ -6,7 +6,7 @@ use Rattle.level.specs.Meaning.{Event}
 use Rattle.command.specs.declared.command.Command.{Command}
 use Rattle.command.specs.declared.command.Command.TheVariants.{Open, Wake, Block, Tick, Begin, End}
 use Rattle.command.specs.Grammar.{Begins}
-use Rattle.command.specs.Reading.{rest, next_line}
+use Rattle.command.specs.Reading.{next_line}
 use Rattle.command.specs.Scripts.{Opens, Says}
 use Rattle.row.specs.declared.row.Row.{Row}
 use Rattle.row.specs.declared.row.Row.TheVariants.{Malformed}
@@ -26,7 +26,7 @@ pub record Standing (R : Type 0) : Type 0 where
 
 abbrev pub standing : {T R : Type 0} → Timetables T → SpareRules R → Rehearsal T R → Standing R
 standing ts rs s = record {
-  text = rest s.reader;
+  text = s.reader.rest;
   line = s.reader.line;
   ticks = s.ticks;
   on = stage ts rs s.level;

@@ -12,7 +12,7 @@ use Rattle.rehearsal.specs.declared.rehearsal.Rehearsal.{Rehearsal}
 use Rattle.rehearsal.specs.declared.rehearsal.Progress.{Progress}
 use Rattle.rehearsal.specs.declared.rehearsal.Progress.TheVariants.{Told, Silent, Over}
 use Rattle.command.specs.Grammar.{Begins}
-use Rattle.command.specs.Reading.{rest, next_line}
+use Rattle.command.specs.Reading.{next_line}
 use Rattle.command.specs.Scripts.{Opens}
 use Rattle.rehearsal.specs.Played.{Woken, Blocked, Ticks, Begun, Finished}
 
@@ -25,7 +25,7 @@ pub record State : Type 0 where
 
 abbrev pub state : {T R : Type 0} → Timetables T → SpareRules R → Rehearsal T R → State
 state ts rs s = record {
-  text = rest s.reader;
+  text = s.reader.rest;
   line = s.reader.line;
   ticks = s.ticks;
   level = meaning ts rs s.level;

@@ -1,7 +1,7 @@
 // How a rehearsal goes on.
 ghost use Rattle.std.specs.Prelude.{◌≡◌, ℕ, ◌<◌, true, [], ◌∷◌, ℤ, is_ok, ◌≢◌};
 ghost use Rattle.command.specs.Grammar.{ReadsNumbered, ReadOnce};
-ghost use Rattle.command.specs.Reading.{rest, next_line};
+ghost use Rattle.command.specs.Reading.{next_line};
 ghost use Rattle.rehearsal.specs.Onwards.{standing, RunsTick, StopsAt, LineGoes, RunsNext, RunsOn};
 ghost use Rattle.rehearsal.specs.Rehearsals.{state, TickRun, Refused, Follows, NextLine, Goes};
 ghost use Rattle.rehearsal.specs.Stages.{rows_in};
@@ -18,7 +18,7 @@ use timetable::table::Timetable;
 impl<'a, T: Timetable, R: SpareRule> Rehearsal<'a, T, R> {
     /// A rehearsal that plays on the level what the reader still has.
     pub fn new(reader: Reader<'a>, level: Level<T, R>) -> Rehearsal<'a, T, R>
-        ensures reader { rest result.reader ≡ rest reader.entry }
+        ensures reader { result.reader.rest ≡ reader.entry.rest }
         ensures line { result.reader.line ≡ reader.entry.line }
         ensures level { result.level ≡ level }
         ensures ticks { result.ticks ≡ 0 }
@@ -81,7 +81,7 @@ impl<'a, T: Timetable, R: SpareRule> Rehearsal<'a, T, R> {
 
     // Reads the next line, and tells its number with its command.
     fn read_line(&mut self) -> Result<(u32, Command), ScriptFault>
-        ensures reads { ReadsNumbered (rest self.old.reader) self.old.reader.line result (rest self.new.reader) }
+        ensures reads { ReadsNumbered self.old.reader.rest self.old.reader.line result self.new.reader.rest }
         ensures line { is_ok result ≡ true → self.new.reader.line ≡ next_line self.old.reader.line }
         ensures once { ReadOnce }
         ensures ticks { self.new.ticks ≡ self.old.ticks }
@@ -92,7 +92,7 @@ impl<'a, T: Timetable, R: SpareRule> Rehearsal<'a, T, R> {
 
     // Plays the next line.
     fn play_line(&mut self) -> Option<Row>
-        requires { (self.old.ticks ≡ 0) × ((rest self.old.reader ≢ [])) }
+        requires { (self.old.ticks ≡ 0) × (self.old.reader.rest ≢ []) }
         ensures goes { NextLine (state T.Timetable R.SpareRule self.old) result (state T.Timetable R.SpareRule self.new) }
         ensures runs { RunsNext R.SpareRule (standing T.Timetable R.SpareRule self.old) result (standing T.Timetable R.SpareRule self.new) }
     {

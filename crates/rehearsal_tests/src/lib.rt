@@ -7,6 +7,7 @@ mod tests {
     use command::opening::read_opening;
     use command::reader::Reader;
     use level::ticked::Letter;
+    use rehearsal::fault::RehearsalFault;
     use row::row::{Row, RowFault};
     use row::write::write_row;
     use std::test::Fail;
@@ -110,5 +111,26 @@ mod tests {
     fn numbers_of_refusals(rt: HostRuntime) {
         assert_eq!(rt; RowFault::Full.number(), 36);
         assert_eq!(rt; ScriptFault::Malformed { line: 3 }.number(), 35);
+    }
+
+    #[test]
+    fn texts_of_refusals(rt: HostRuntime) -> Result<(), Fail> {
+        let heap = rt.alloc();
+        assert!(rt;
+            RowFault::Full.to_string(heap)?.as_str()
+                == "36: the row and its byte 10 are longer than the buffer"
+        );
+        assert!(rt;
+            ScriptFault::Malformed { line: 3 }.to_string(heap)?.as_str()
+                == "35: line 3 is malformed"
+        );
+        let memory: RehearsalFault<RowFault> = RehearsalFault::Memory;
+        assert!(rt; memory.to_string(heap)?.as_str() == "no memory for the plan");
+        let output = RehearsalFault::Output(RowFault::Full);
+        assert!(rt;
+            output.to_string(heap)?.as_str()
+                == "36: the row and its byte 10 are longer than the buffer"
+        );
+        Ok(())
     }
 }

@@ -4,10 +4,9 @@
 
 ghost use Rattle.std.specs.Prelude.{◌≤◌, length, IfOk};
 
-use anyhow::anyhow;
+use anyhow::Context;
 use command::opening::MOST_BYTES;
 use plan::plan::Plan;
-use rehearsal::fault::RehearsalFault;
 use rehearsal::whole::rehearse;
 use reservation::reservation::Reservation;
 use row::sink::Sink;
@@ -32,7 +31,8 @@ impl Sink for Output<'_> {
     }
 }
 
-// Reads standard input until it ends or the buffer is full, and says how much it is.
+// Reads standard input until it ends or the buffer is full, and says how much it is. Of std's methods `read_exact` fails where the
+// input ends before, and `read_to_end` asks for memory.
 fn read_input(rt: &HostRuntime, buf: &mut [u8]) -> io::Result<usize>
     ensures { IfOk result (λ n. n ≤ length buf.old) }
 {
@@ -51,17 +51,13 @@ fn read_input(rt: &HostRuntime, buf: &mut [u8]) -> io::Result<usize>
 // Whether the sheet is refused. Want of memory is no verdict on it.
 fn is_refused(heap: Global, sheet: &[u8]) -> anyhow::Result<bool> {
     let mut plan = Plan::empty(heap);
-    let mut list = [Reservation {
-        activity: 0,
-        ticks: 0,
-        period: 0,
-    }; 16];
+    let mut list = [Reservation::default(); 16];
     match load(sheet, &mut plan, &mut list) {
         Ok(_) => Ok(false),
-        Err(fault) => match fault.number() {
-            Some(_) => Ok(true),
-            None => Err(anyhow!("no memory for the plan")),
-        },
+        Err(fault) => {
+            fault.number().context("no memory for the plan")?;
+            Ok(true)
+        }
     }
 }
 
@@ -75,11 +71,8 @@ fn run(rt: &HostRuntime) -> anyhow::Result<()> {
         read_input(rt, &mut script)?
     };
     let mut output = Output { rt };
-    match rehearse(rt.alloc(), sheet.as_slice(), &script[0..size], &mut output) {
-        Ok(()) => Ok(()),
-        Err(RehearsalFault::Memory) => Err(anyhow!("no memory for the plan")),
-        Err(RehearsalFault::Output(fault)) => Err(fault.into()),
-    }
+    rehearse(rt.alloc(), sheet.as_slice(), &script[..size], &mut output)?;
+    Ok(())
 }
 
 fn main(rt: HostRuntime) -> anyhow::Result<()> {

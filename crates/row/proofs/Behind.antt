@@ -1,12 +1,12 @@
 -- A row that is written behind what waits in a buffer.
-use Rattle.std.proofs.Common.{◌≡◌, ℕ, ◌+◌, ◌-◌, ◌<◌, ◌≤◌, Bool, true, false, cond, leb, List, [], ◌++◌, length, take, drop, Ok, Err, Result, sym, refl, ap, ◌∙◌, subst, append_assoc, arith}
+use Rattle.std.proofs.Common.{◌≡◌, ℕ, ◌+◌, ◌-◌, ◌<◌, ◌≤◌, Bool, true, false, cond, leb, List, [], ◌++◌, length, take, drop, Ok, Err, Result, sym, refl, ap, ◌∙◌, subst, arith}
 use borrow.Rule.Slice.PartMut.{put_mid}
-use Rattle.std.proofs.lemmas.List.{take_rest, length-drop, length-append, length-take-le, take_at}
+use Rattle.std.proofs.lemmas.List.{take_rest, length-drop, length-append, length-take-le, take_at, take-append-drop}
 use Rattle.std.proofs.lemmas.Bool.Decides.{nat_tests}
 use Rattle.row.specs.declared.row.RowFault.{RowFault}
 use Rattle.row.specs.declared.row.RowFault.TheVariants.{Full}
-use Rattle.row.specs.Rows.{row_room, placed, laid}
-use Rattle.row.proofs.Laid.{lent, placed_is}
+use Rattle.row.specs.Rows.{row_room, placed}
+use Rattle.row.proofs.Laid.{written, placed_is}
 
 -- there is room, and the length is told; or there is none
 has_room : (t xs : List ℕ) (n : ℕ) → Ok n ≡ row_room t xs → (length t ≤ length xs) × (n ≡ length t)
@@ -37,12 +37,13 @@ module _ (xs ys t : List ℕ) (a n : ℕ) (len : length xs ≡ n) (fits : a ≤ 
       let room = has_room t (take (n - a) (drop a xs)) size r in
       let all : a + length t ≤ length xs = omega (arith, room.0, lend) in
       let front : length (take a xs ++ t) ≡ a + length t = length-append (take a xs) t ∙ ap (λ k. k + length t) front_length in
-      let there : put_mid a (n - a) xs ys ≡ laid xs a t =
+      let there : put_mid a (n - a) xs ys ≡ (take a xs ++ t) ++ drop (a + length t) xs =
       ap (λ k. put_mid a (k - a) xs ys) (sym len)
-      ∙ lent xs ys a t all (subst (λ (k : ℕ). ys ≡ placed t (take (k - a) (drop a xs))) (sym len) e)
+      ∙ written xs xs ys (take a xs) t a (sym front_length) (sym (take-append-drop a xs))
+      (subst (λ (k : ℕ). ys ≡ t ++ drop (length t) (take (k - a) (drop a xs))) (sym len) (e ∙ placed_is t _ room.0))
       in
       ap (λ k. take (a + k) (put_mid a (n - a) xs ys)) room.1
-      ∙ (ap (take (a + length t)) (there ∙ sym (append_assoc (take a xs) t (drop (a + length t) xs)))
+      ∙ (ap (take (a + length t)) there
       ∙ take_at (take a xs ++ t) (drop (a + length t) xs) (a + length t) front)
 
   -- for want of room what waits stays
@@ -57,8 +58,7 @@ module _ (xs ys t : List ℕ) (a n : ℕ) (len : length xs ≡ n) (fits : a ≤ 
       omega (arith, less.1, lend)
 
 -- a row that is written alone is the front of its buffer
-pub front_of : (xs ys t : List ℕ) (size : ℕ) → ys ≡ placed t xs → Ok size ≡ row_room t xs → take (size - 0) ys ≡ t
+pub front_of : (xs ys t : List ℕ) (size : ℕ) → ys ≡ placed t xs → Ok size ≡ row_room t xs → take size ys ≡ t
 front_of xs ys t size e r =
     let room = has_room t xs size r in
-    let plain : size - 0 ≡ length t = omega (arith, room.1) in
-    ap (λ k. take k ys) plain ∙ (ap (take (length t)) (e ∙ placed_is t xs room.0) ∙ take_at t (drop (length t) xs) (length t) refl)
+    ap (λ k. take k ys) room.1 ∙ (ap (take (length t)) (e ∙ placed_is t xs room.0) ∙ take_at t (drop (length t) xs) (length t) refl)

@@ -1,89 +1,54 @@
-use Rattle.std.proofs.Common.{◌≡◌, ℕ, ◌+◌, ◌-◌, ◌<◌, ◌≤◌, List, [], ◌∷◌, ◌++◌, length, get_or, take, drop, ℤ, pos, negsuc, nat_abs, ◌<ℤ◌, decimal, sym, refl, ap, ◌∙◌, append_assoc, append-nil, arith}
+-- Texts written one behind another.
+use Rattle.std.proofs.Common.{◌≡◌, ℕ, ◌+◌, ◌-◌, ◌<◌, ◌≤◌, List, [], ◌∷◌, ◌++◌, length, get_or, take, drop, sym, ap, ◌∙◌, append_assoc, append-nil, arith}
 use borrow.Rule.Slice.PartMut.{put_mid}
-use Rattle.std.specs.Fmt.{signed_decimal}
-use Rattle.std.proofs.lemmas.List.{take_rest, drop-drop, drop_all, length-drop, length-append, length-take-le, take_at, drop_at, take-append-drop, at_drop_more}
+use Rattle.std.proofs.lemmas.List.{take_rest, drop-drop, drop_all, length-drop, take_at, drop_at, take_more, length-append}
+use Rattle.std.proofs.lemmas.List.Folds.{length-flat_map-take}
+use Rattle.std.proofs.lemmas.List.Concat.{flat_map-append}
 use Rattle.std.proofs.lemmas.Bool.{cond-true, le-leb}
-use Rattle.std.proofs.lemmas.Int.{ints}
-use Rattle.row.specs.Rows.{placed, laid, field_text, fields_text}
-use Rattle.row.specs.declared.row.Field.{Field}
+use Rattle.row.specs.declared.field.Field.{Field}
+use Rattle.row.specs.Fields.{field_text, fields_text}
+use Rattle.row.specs.Rows.{placed}
 
 -- where there is room, the text stands
 pub placed_is : (t xs : List ℕ) → length t ≤ length xs → placed t xs ≡ t ++ drop (length t) xs
 placed_is t xs h = cond-true _ (t ++ drop (length t) xs) xs (le-leb (length t) (length xs) h)
 
--- a text that is placed in what was lent from a on
-pub lent : (xs ys : List ℕ) (a : ℕ) (t : List ℕ) → a + length t ≤ length xs
-    → ys ≡ placed t (take (length xs - a) (drop a xs)) → put_mid a (length xs - a) xs ys ≡ laid xs a t
-lent xs ys a t fits e =
-    let there : ys ≡ t ++ drop (a + length t) xs =
-    e ∙ (ap (placed t) (take_rest xs a) ∙ (placed_is t (drop a xs) (omega (arith, length-drop a xs)) ∙ ap (λ z. t ++ z) (drop-drop (length t) a xs)))
+-- a text more is written into what was lent from a on, where so much stood at the front of the buffer
+pub written : (start xs ys front t : List ℕ) (a : ℕ) → a ≡ length front → xs ≡ front ++ drop a start
+    → ys ≡ t ++ drop (length t) (take (length xs - a) (drop a xs)) → put_mid a (length xs - a) xs ys ≡ (front ++ t) ++ drop (a + length t) start
+written start xs ys front t a f e w =
+    let taken : take a xs ≡ front = ap (take a) e ∙ take_at front (drop a start) a (sym f) in
+    let behind : drop a xs ≡ drop a start = ap (drop a) e ∙ drop_at front (drop a start) a (sym f) in
+    let there : ys ≡ t ++ drop (a + length t) start =
+    w ∙ (ap (λ z. t ++ drop (length t) z) (take_rest xs a ∙ behind) ∙ ap (λ z. t ++ z) (drop-drop (length t) a start))
     in
     let none : drop (length xs - a) (drop a xs) ≡ [] = drop_all (length xs - a) (drop a xs) (omega (arith, length-drop a xs)) in
-    ap (λ z. take a xs ++ (ys ++ z)) none ∙ ap (λ z. take a xs ++ z) (append-nil ys ∙ there)
+    ap (λ z. take a xs ++ (ys ++ z)) none
+    ∙ (ap (λ z. take a xs ++ z) (append-nil ys ∙ there)
+    ∙ (ap (λ z. z ++ (t ++ drop (a + length t) start)) taken ∙ sym (append_assoc front t (drop (a + length t) start))))
 
--- one text behind another
-pub laid_laid : (xs : List ℕ) (a : ℕ) (t u : List ℕ) → a + length t + length u ≤ length xs
-    → laid (laid xs a t) (a + length t) u ≡ laid xs a (t ++ u)
-laid_laid xs a t u fits =
-    let d = drop (a + length t) xs in
-    let grouped : laid xs a t ≡ (take a xs ++ t) ++ d = sym (append_assoc (take a xs) t d) in
-    let front : length (take a xs ++ t) ≡ a + length t =
-    length-append (take a xs) t ∙ ap (λ n. n + length t) (length-take-le a xs (omega arith))
-    in
-    let taken : take (a + length t) (laid xs a t) ≡ take a xs ++ t =
-    ap (take (a + length t)) grouped ∙ take_at (take a xs ++ t) d (a + length t) front
-    in
-    let rest : drop (a + length t) (laid xs a t) ≡ d =
-    ap (drop (a + length t)) grouped ∙ drop_at (take a xs ++ t) d (a + length t) front
-    in
-    let past : drop (a + length t + length u) (laid xs a t) ≡ drop (a + length (t ++ u)) xs =
-    sym (drop-drop (length u) (a + length t) (laid xs a t))
-    ∙ (ap (drop (length u)) rest ∙ (drop-drop (length u) (a + length t) xs ∙ ap (λ n. drop n xs) (omega (arith, length-append t u))))
-    in
-    ap (λ z. z ++ (u ++ drop (a + length t + length u) (laid xs a t))) taken
-    ∙ (ap (λ z. (take a xs ++ t) ++ (u ++ z)) past
-    ∙ (append_assoc (take a xs) t (u ++ drop (a + length (t ++ u)) xs)
-    ∙ ap (λ z. take a xs ++ z) (sym (append_assoc t u (drop (a + length (t ++ u)) xs)))))
+-- the text of one field more
+pub texts_next : (fs : List Field) (i : ℕ) (d : Field) → i < length fs → fields_text (take (i + 1) fs) ≡ fields_text (take i fs) ++ field_text (get_or fs i d)
+texts_next fs i d h =
+    ap fields_text (take_more fs i d h)
+    ∙ (flat_map-append field_text (take i fs) (get_or fs i d ∷ []) ∙ ap (λ z. fields_text (take i fs) ++ z) (append-nil (field_text (get_or fs i d))))
 
--- below nothing there is a minus, and then the number
-pub minus : (v : ℤ) → v <ℤ pos 0 → signed_decimal v ≡ 45 ∷ decimal (nat_abs v)
-minus (pos n) h = absurd (omega (arith, ints))
-minus (negsuc n) h = refl
+-- there is room for the next field
+pub fits_next : (fs : List Field) (i : ℕ) (d : Field) (xs : List ℕ) (a : ℕ) → i < length fs → a ≡ length (fields_text (take i fs)) → length (fields_text fs) ≤ length xs
+    → length (field_text (get_or fs i d)) ≤ length (take (length xs - a) (drop a xs))
+fits_next fs i d xs a h f room =
+    let lend = ap length (take_rest xs a) ∙ length-drop a xs in
+    omega (arith, length-flat_map-take field_text fs i d h)
 
--- and else the number alone
-pub plain : (v : ℤ) → (v <ℤ pos 0 → ⊥) → signed_decimal v ≡ decimal (nat_abs v)
-plain (pos n) h = refl
-plain (negsuc n) h = absurd (h (omega (arith, ints)))
-
--- o is xs with t at its front, which ends at a
-abbrev pub Front : List ℕ → List ℕ → List ℕ → ℕ → Type 0
-Front xs o t a = (o ≡ laid xs 0 t) × (a ≡ length t)
-
--- one text more
-pub on : (xs o p t u : List ℕ) (a r : ℕ) → Front xs o t a → p ≡ laid o a u → r ≡ a + length u → r ≤ length xs → Front xs p (t ++ u) r
-on xs o p t u a r f e l fits =
-    let zero : a ≡ 0 + length t = omega (arith, f.1) in
-    let fits_both : 0 + length t + length u ≤ length xs = omega (arith, f.1) in (
-      e ∙ (ap (λ z. laid z a u) f.0 ∙ (ap (λ k. laid (laid xs 0 t) k u) zero ∙ laid_laid xs 0 t u fits_both)),
-      omega (arith, f.1, length-append t u),
+-- the next field is written
+pub written_next : (fs : List Field) (i : ℕ) (d : Field) (start xs ys : List ℕ) (a size : ℕ) → i < length fs → a ≡ length (fields_text (take i fs)) → xs ≡ fields_text (take i fs) ++ drop a start
+    → size ≡ length (field_text (get_or fs i d))
+    → ys ≡ field_text (get_or fs i d) ++ drop (length (field_text (get_or fs i d))) (take (length xs - a) (drop a xs))
+    → (a + size ≡ length (fields_text (take (i + 1) fs))) × (put_mid a (length xs - a) xs ys ≡ fields_text (take (i + 1) fs) ++ drop (a + size) start)
+written_next fs i d start xs ys a size h f e l w =
+    let t = field_text (get_or fs i d) in
+    let next = texts_next fs i d h in (
+      omega (arith, ap length next, length-append (fields_text (take i fs)) t),
+      written start xs ys (fields_text (take i fs)) t a f e w
+          ∙ (ap (λ z. z ++ drop (a + length t) start) (sym next) ∙ ap (λ n. fields_text (take (i + 1) fs) ++ drop (a + n) start) (sym l)),
     )
-
--- a whole text at the front is placed
-pub front_placed : (xs o t : List ℕ) (a : ℕ) → Front xs o t a → a ≤ length xs → o ≡ placed t xs
-front_placed xs o t a f fits =
-    let none : 0 + length t ≡ length t = omega arith in
-    f.0 ∙ (ap (λ k. t ++ drop k xs) none ∙ sym (placed_is t xs (omega (arith, f.1))))
-
--- nothing put anywhere changes nothing
-pub laid_nothing : (xs : List ℕ) (a : ℕ) → laid xs a [] ≡ xs
-laid_nothing xs a =
-    let none : a + 0 ≡ a = omega arith in
-    ap (λ k. take a xs ++ drop k xs) none ∙ take-append-drop a xs
-
--- the next field, and those behind it
-pub fields_next : (fs : List Field) (i : ℕ) (d : Field) → i < length fs
-    → (fields_text (drop i fs) ≡ field_text (get_or fs i d) ++ fields_text (drop (i + 1) fs))
-    × (length (fields_text (drop i fs)) ≡ length (field_text (get_or fs i d)) + length (fields_text (drop (i + 1) fs)))
-fields_next fs i d h =
-    let e : fields_text (drop i fs) ≡ field_text (get_or fs i d) ++ fields_text (drop (i + 1) fs) = at_drop_more fields_text fs i d h in
-    (e, ap length e ∙ length-append (field_text (get_or fs i d)) (fields_text (drop (i + 1) fs)))

@@ -1,12 +1,10 @@
 -- What rows look like, and what writing one does to a buffer.
-use Rattle.std.specs.Prelude.{ℕ, ◌+◌, cond, List, [], ◌∷◌, ◌++◌, length, take, drop, Some, None, Ok, Err, codes, decimal, Option, Result, nat_le}
+use Rattle.std.specs.Prelude.{◌≡◌, ℕ, ◌≤◌, cond, List, [], ◌∷◌, ◌++◌, length, drop, Some, None, Ok, Err, codes, decimal, Option, Result, nat_le}
 use Rattle.std.specs.Fmt.{signed_decimal}
 use Rattle.level.specs.declared.ticked.Letter.{Letter}
 use Rattle.level.specs.declared.ticked.Letter.TheVariants.{Constrained, Reserved, Spare, Idle}
 use Rattle.row.specs.declared.row.Row.{Row}
 use Rattle.row.specs.declared.row.Row.TheVariants.{Ran, Began, Ended, BeginRefused, EndRefused, WakeRefused, BlockRefused, TickRefused, Malformed}
-use Rattle.row.specs.declared.row.Field.{Field}
-use Rattle.row.specs.declared.row.Field.TheVariants.{Nothing, Byte, Unsigned, Signed}
 use Rattle.row.specs.declared.row.RowFault.{RowFault}
 use Rattle.row.specs.declared.row.RowFault.TheVariants.{Full}
 
@@ -41,32 +39,18 @@ row_line (Malformed k) = codes "? " ++ decimal k
 abbrev pub row_text : Row → List ℕ
 row_text r = row_line r ++ (10 ∷ [])
 
--- The parts of a row.
-
-abbrev pub field_text : Field → List ℕ
-field_text Nothing = []
-field_text (Byte b) = b ∷ []
-field_text (Unsigned n) = decimal n
-field_text (Signed z) = signed_decimal z
-
-abbrev pub fields_text : List Field → List ℕ
-fields_text [] = []
-fields_text (f ∷ fs) = field_text f ++ fields_text fs
-
 -- What a buffer holds after.
-
--- how long a text is, where the buffer has room for it
-abbrev pub room : List ℕ → List ℕ → Option ℕ
-room t xs = cond (nat_le (length t) (length xs)) (Some (length t)) None
 
 -- the buffer with the text at its front, where it has room, and else as it was
 abbrev pub placed : List ℕ → List ℕ → List ℕ
 placed t xs = cond (nat_le (length t) (length xs)) (t ++ drop (length t) xs) xs
 
--- the buffer with the text at a place, and each other byte as it was
-abbrev pub laid : List ℕ → ℕ → List ℕ → List ℕ
-laid xs a t = take a xs ++ (t ++ drop (a + length t) xs)
-
 -- the length of a row's text, or the refusal
 abbrev pub row_room : List ℕ → List ℕ → Result ℕ RowFault
 row_room t xs = cond (nat_le (length t) (length xs)) (Ok (length t)) (Err Full)
+
+-- a text of a row is written at the front of a buffer, and all that stands behind it stays; or it has no room, and all stays
+pub record Writes (text old : List ℕ) (r : Result ℕ RowFault) (new : List ℕ) : Type 0 where
+  pub value : r ≡ row_room text old
+  pub after : new ≡ placed text old
+  pub short : length text ≤ 99

@@ -1,110 +1,129 @@
 // Rows written into a buffer.
-ghost use Rattle.std.specs.Prelude.{◌≡◌, ℕ, ◌+◌, ◌<◌, ◌≤◌, [], ◌∷◌, length, ℤ, decimal};
-ghost use Rattle.std.specs.Fmt.{signed_decimal};
-ghost use Rattle.row.specs.Rows.{field_text, fields_text, laid, placed, row_text, row_room};
+ghost use Rattle.std.specs.Prelude.{◌≡◌, ℕ, ◌≤◌, [], ◌∷◌, length, IsTrue};
+ghost use Rattle.std.specs.List.{list_all};
+ghost use Rattle.row.specs.declared.row.Row.TheVariants.{Ran};
+ghost use Rattle.row.specs.Fields.{field_text, fields_text, refusal_text, is_short};
+ghost use Rattle.row.specs.Rows.{runner_text, letter_byte, row_text, Writes};
 
-use crate::figures::{digit_count, signed_size, write_i32, write_u32};
-use crate::row::{Field, Row, RowFault};
+use crate::field::Field::{self, Text};
+use crate::field::{digits, fields_size, put_fields, sign};
+use crate::row::{Row, RowFault};
+use level::ticked::Letter;
 
 /// No row is longer, its byte 10 counted.
 pub const LONGEST_ROW: usize = 99;
 
-// How long a field is.
-fn field_size(field: Field) -> usize
-    ensures value { result ≡ length (field_text field) }
-    ensures bound { result ≤ 11 }
+// Who ran a tick, with `-` for nobody.
+fn runner_field(runner: Option<u8>) -> Field
+    ensures text { field_text result ≡ runner_text runner }
+    ensures short { IsTrue (is_short result) }
 {
-    match field {
-        Field::Nothing => 0,
-        Field::Byte(_) => 1,
-        Field::Unsigned(n) => digit_count(n),
-        Field::Signed(v) => signed_size(v),
-    }
+    runner.map_or(Text(b"-"), |activity| digits(u32::from(activity)))
 }
 
-// Writes one byte at `at`, and says where it ends.
-fn put_byte(out: &mut [u8], at: usize, b: u8) -> usize
-    requires { at < length out.old }
-    ensures value { result ≡ at + 1 }
-    ensures after { out.new ≡ laid out.old at (b ∷ []) }
+// The letter of a tick.
+fn letter_field(letter: Letter) -> Field
+    ensures text { field_text result ≡ letter_byte letter ∷ [] }
+    ensures short { IsTrue (is_short result) }
 {
-    out[at] = b;
-    at + 1
+    Text(match letter {
+        Letter::Constrained { .. } => b"c",
+        Letter::Reserved => b"r",
+        Letter::Spare => b"s",
+        Letter::Idle => b"i",
+    })
 }
 
-// Writes a number at `at`, and says where it ends. The number writer is lent what is left of the buffer.
-fn put_unsigned(out: &mut [u8], at: usize, n: u32) -> usize
-    requires { at + length (decimal n) ≤ length out.old }
-    ensures value { result ≡ at + length (decimal n) }
-    ensures after { out.new ≡ laid out.old at (decimal n) }
+// Writes the fields at the front of the buffer, where it has room for all.
+fn write_fields(out: &mut [u8], fields: &[Field]) -> Result<usize, RowFault>
+    requires few { length fields.now ≤ 9 }
+    requires short { IsTrue (list_all is_short fields.now) }
+    ensures { Writes (fields_text fields.now) out.old result out.new }
 {
-    match write_u32(&mut out[at..], n) {
-        Some(size) => at + size,
-        None => unreachable(),
+    if out.len() < fields_size(fields) {
+        return Err(RowFault::Full);
     }
+    Ok(put_fields(out, fields))
 }
 
-// The same of a number with a sign.
-fn put_signed(out: &mut [u8], at: usize, v: i32) -> usize
-    requires { at + length (signed_decimal v) ≤ length out.old }
-    ensures value { result ≡ at + length (signed_decimal v) }
-    ensures after { out.new ≡ laid out.old at (signed_decimal v) }
+// `TICK ACTIVITY LETTER` and byte 10, with `-` for nobody
+fn write_ran(
+    out: &mut [u8],
+    tick: i32,
+    runner: Option<u8>,
+    letter: Letter,
+) -> Result<usize, RowFault>
+    ensures { Writes (row_text (Ran tick runner letter)) out.old result out.new }
 {
-    match write_i32(&mut out[at..], v) {
-        Some(size) => at + size,
-        None => unreachable(),
-    }
+    write_fields(
+        out,
+        &[
+            sign(tick),
+            digits(tick.unsigned_abs()),
+            Text(b" "),
+            runner_field(runner),
+            Text(b" "),
+            letter_field(letter),
+            Text(b"\n"),
+        ],
+    )
 }
 
-// Writes a field at `at`, and says where it ends.
-fn put_field(out: &mut [u8], at: usize, field: Field) -> usize
-    requires { at + length (field_text field) ≤ length out.old }
-    ensures value { result ≡ at + length (field_text field) }
-    ensures after { out.new ≡ laid out.old at (field_text field) }
+// `CALL ID no NUMBER` and byte 10
+fn write_refusal(
+    out: &mut [u8],
+    call: &'static [u8],
+    id: u16,
+    number: u8,
+) -> Result<usize, RowFault>
+    requires { length call.now ≤ 11 }
+    ensures { Writes (refusal_text call.now id number) out.old result out.new }
 {
-    match field {
-        Field::Nothing => at,
-        Field::Byte(b) => put_byte(out, at, b),
-        Field::Unsigned(n) => put_unsigned(out, at, n),
-        Field::Signed(v) => put_signed(out, at, v),
-    }
-}
-
-// How long all fields are.
-fn fields_size(fields: &[Field; 9]) -> usize
-    ensures value { result ≡ length (fields_text fields.now) }
-    ensures bound { result ≤ 99 }
-{
-    let mut size = 0;
-    for i in 0..9usize {
-        size += field_size(fields[i]);
-    }
-    size
-}
-
-// Writes the fields, each after the one before it, and says where the last ends.
-fn put_fields(out: &mut [u8], fields: &[Field; 9]) -> usize
-    requires { length (fields_text fields.now) ≤ length out.old }
-    ensures value { result ≡ length (fields_text fields.now) }
-    ensures after { out.new ≡ laid out.old 0 (fields_text fields.now) }
-{
-    let mut at = 0;
-    for i in 0..9usize {
-        at = put_field(out, at, fields[i]);
-    }
-    at
+    write_fields(
+        out,
+        &[
+            Text(call),
+            digits(u32::from(id)),
+            Text(b" no "),
+            digits(u32::from(number)),
+            Text(b"\n"),
+        ],
+    )
 }
 
 /// Writes a row and byte 10 at the front of the buffer, and returns their length; later bytes stay. A buffer that is shorter
 /// holds what it held. No row is longer than 99 bytes.
 pub fn write_row(row: &Row, out: &mut [u8]) -> Result<usize, RowFault>
-    ensures value { result ≡ row_room (row_text row.now) out.old }
-    ensures after { out.new ≡ placed (row_text row.now) out.old }
-    ensures short { length (row_text row.now) ≤ 99 }
+    ensures { Writes (row_text row.now) out.old result out.new }
 {
-    let fields = row.fields();
-    if out.len() < fields_size(&fields) {
-        return Err(RowFault::Full);
+    match *row {
+        Row::Ran {
+            tick,
+            runner,
+            letter,
+        } => write_ran(out, tick, runner, letter),
+        Row::Began { seat } => write_fields(
+            out,
+            &[Text(b"c "), digits(u32::from(seat)), Text(b" ok\n")],
+        ),
+        Row::Ended { seat, taken } => write_fields(
+            out,
+            &[
+                Text(b"e "),
+                digits(u32::from(seat)),
+                Text(b" "),
+                digits(taken),
+                Text(b"\n"),
+            ],
+        ),
+        Row::BeginRefused { seat, number } => write_refusal(out, b"c ", seat, number),
+        Row::EndRefused { seat, number } => write_refusal(out, b"e ", seat, number),
+        Row::WakeRefused { activity, number } => write_refusal(out, b"w ", activity, number),
+        Row::BlockRefused { activity, number } => write_refusal(out, b"b ", activity, number),
+        Row::TickRefused { number } => write_fields(
+            out,
+            &[Text(b"t no "), digits(u32::from(number)), Text(b"\n")],
+        ),
+        Row::Malformed { line } => write_fields(out, &[Text(b"? "), digits(line), Text(b"\n")]),
     }
-    Ok(put_fields(out, &fields))
 }

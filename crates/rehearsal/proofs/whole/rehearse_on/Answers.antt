@@ -1,7 +1,6 @@
 use Rattle.std.proofs.Common.{◌≡◌, ℕ, ap, ◌∙◌, subst, w32, SFits, rules}
 use Rattle.std.proofs.lemmas.Int.{to_z-of_z}
 use Rattle.command.specs.Grammar.{fault_line}
-use Rattle.command.specs.Reading.{rest}
 use Rattle.row.specs.declared.row.Row.TheVariants.{Malformed}
 use Rattle.row.specs.Rows.{row_text}
 use Rattle.rehearsal.specs.Stages.{stage}
@@ -22,14 +21,14 @@ returns-in-Ok g c =
       short = f.short;
       clock = c.in-Ok.opening.clock;
       repeats = c.in-Ok.opening.repeats;
-      text = rest c.in-Ok.opening.reader;
+      text = c.in-Ok.opening.reader.rest;
       opens = f.says;
       first = stage ts held c.open-level.result;
       opening = opened_with ts c.args.timetable c.open-level.result c.new-rule.result c.in-Ok.opening.clock _ (to_z-of_z w32 _ fits) o.rule o.opened;
       fresh = fresh_with c.open-level.result.rule c.new-rule.result c.new.result c.in-Ok.opening.repeats o.rule
           c.new-rule.ensures.below c.new.ensures c.new-rule.ensures.repeats c.new-rule.ensures.choice c.new-rule.ensures.left;
     } in
-    let here = starts_at (standing ts held c.new-rehearsal.result) (rest c.in-Ok.opening.reader) (stage ts held c.open-level.result)
+    let here = starts_at (standing ts held c.new-rehearsal.result) c.in-Ok.opening.reader.rest (stage ts held c.open-level.result)
     n.reader (n.line ∙ f.line) n.ticks (ap (stage ts held) n.level) in
     record {
       told = tells_script start g.S.Sink.hands (standing ts held c.new-rehearsal.result) here c.args.sink.now c.run.result

@@ -1,7 +1,6 @@
-use Rattle.std.proofs.Common.{◌≡◌, ◌+◌, ◌-◌, ◌/◌, ◌%◌, ◌<◌, ◌≤◌, [], ◌∷◌, ◌++◌, length, drop, set, decimal, sym, ap, ◌∙◌, append_assoc, arith}
+use Rattle.std.proofs.Common.{◌≡◌, ◌+◌, ◌-◌, ◌/◌, ◌%◌, ◌<◌, ◌≤◌, [], ◌∷◌, ◌++◌, drop, set, decimal, sym, ap, ◌∙◌, append_assoc, arith}
 use Rattle.std.proofs.lemmas.List.{drop-set}
 use Rattle.std.proofs.lemmas.Fmt.{decimal_step, decimal_digit, decimal_nonempty}
-use Rattle.std.proofs.lemmas.Bool.Decides.{nat_tests}
 use Rattle.row.proofs.Lengths.{longer, ten_from_length, digit_from_length}
 use Rattle.row.proofs.figures.write_u32.Goals as goal
 
@@ -22,7 +21,6 @@ loop-at-preserved c =
       omega (arith, c.loop-at.invariant.0),
       ap (λ t. decimal (n / 10) ++ t) stored ∙ (sym front ∙ c.loop-at.invariant.1),
       omega arith,
-      omega arith,
     )
 
 pub overflow_cast-out-2 : goal.overflow_cast-out-2
@@ -34,8 +32,8 @@ overflow_add-out-2 c = omega (arith, digit_from_length c.loop-at.left (omega ari
 pub bounds-out-0 : goal.bounds-out-0
 bounds-out-0 c = omega (arith, decimal_nonempty c.args.n (omega arith))
 
-pub returns : goal.returns
-returns c =
+pub returns-clause-after : goal.returns-clause-after
+returns-clause-after c =
     let n = c.loop-at.left in
     let xs = c.loop-at.out in
     let text = decimal c.args.n in
@@ -47,7 +45,4 @@ returns c =
     ap (λ t. t ++ drop c.loop-at.at xs) (decimal_digit n small) ∙ ap (λ k. (48 + n) ∷ drop k xs) at_one
     in
     let stored : set xs 0 (48 + n) ≡ (48 + n) ∷ drop 1 xs = drop-set xs 0 (48 + n) (omega arith) in
-    let whole : set xs 0 (48 + n) ≡ text ++ drop (length text) c.args.out.now =
     stored ∙ (sym last ∙ (c.loop-at.invariant.1 ∙ ap (λ k. text ++ drop k c.args.out.now) c.digit_count-count.ensures.value))
-    in
-    record { value = grind (arith, nat_tests); after = grind (arith, nat_tests) }

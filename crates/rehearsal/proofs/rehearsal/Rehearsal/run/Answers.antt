@@ -1,13 +1,12 @@
 use Rattle.std.proofs.Common.{[], refl}
 use Rattle.std.proofs.lemmas.Result.{err_from_is_err_and}
-use Rattle.row.specs.Buffers.{waiting}
 use Rattle.rehearsal.specs.declared.rehearsal.Progress.TheVariants.{Silent}
 use Rattle.rehearsal.specs.Onwards.{standing}
 use Rattle.rehearsal.proofs.Running.{told_falls, line_falls, begins, goes_silently, tells, breaks, finishes, runs_broken}
 use Rattle.rehearsal.proofs.rehearsal.Rehearsal.run.Goals as goal
 
 pub loop-row-init : goal.loop-row-init
-loop-row-init g c = begins (waiting c.new-rows.result) c.new-rows.ensures
+loop-row-init g c = begins c.new-rows.result c.new-rows.ensures
 
 pub loop-row-smaller-in-Continue-1 : goal.loop-row-smaller-in-Continue-1
 loop-row-smaller-in-Continue-1 g c = told_falls g.R.SpareRule (standing g.T.Timetable g.R.SpareRule c.loop-row.self) c.in-Told.row (standing g.T.Timetable g.R.SpareRule c.advance.new.self) c.in-Told.ensures.runs
@@ -15,7 +14,7 @@ loop-row-smaller-in-Continue-1 g c = told_falls g.R.SpareRule (standing g.T.Time
 pub loop-row-preserved-in-Continue-1 : goal.loop-row-preserved-in-Continue-1
 loop-row-preserved-in-Continue-1 g c =
     let p = c.in_ok-put-in-Told.ensures in
-    tells c.loop-row.invariant c.in-Told.row (standing g.T.Timetable g.R.SpareRule c.advance.new.self) c.in-Told.ensures.runs p.0 c.put.new.sink (waiting c.put.new.self) p.1 p.2
+    tells c.loop-row.invariant c.in-Told.row (standing g.T.Timetable g.R.SpareRule c.advance.new.self) c.in-Told.ensures.runs p.0 c.put.new.sink c.put.new.self p.1 p.2
 
 pub returns-in_err-put-in-Told : goal.returns-in_err-put-in-Told
 returns-in_err-put-in-Told g c =

@@ -1,5 +1,0 @@
-use Rattle.std.proofs.Common.{append_assoc}
-use Rattle.row.proofs.row.ended_fields.Goals as goal
-
-pub returns : goal.returns
-returns c = simp (append_assoc, c.from.ensures)
