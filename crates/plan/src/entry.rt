@@ -15,7 +15,7 @@ pub struct Entry {
     pub length: u16,
 }
 
-// What is left of a path at any depth: from 16 on, all of it.
+// What is left of a path at any depth: from 16 on, all of it. The search at each tick masks by `Depth::residue`, which tests nothing.
 fn shortened(path: u16, depth: u8) -> u16
     ensures { result ≡ path % 2 ^ depth }
 {
