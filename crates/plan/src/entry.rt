@@ -1,5 +1,5 @@
 // One entry of a plan.
-ghost use Rattle.std.specs.Prelude.{◌≡◌, ℕ, ◌%◌, ◌^◌, ◌≤◌, Decides};
+ghost use Rattle.std.specs.Prelude.{◌≡◌, ◌%◌, ◌^◌, ◌≤◌, Decides};
 ghost use Rattle.plan.specs.Entries.{InRange, Clashing, covers};
 
 use crate::depth::Depth;
