@@ -1,5 +1,5 @@
 // One entry of a plan.
-ghost use Rattle.std.specs.Prelude.{◌≡◌, ℕ, ◌%◌, ◌^◌, ◌≤◌, Decides};
+ghost use Rattle.std.specs.Prelude.{◌≡◌, ◌%◌, ◌^◌, ◌≤◌, Decides};
 ghost use Rattle.plan.specs.Entries.{InRange, Clashing, covers};
 
 use crate::depth::Depth;
@@ -15,7 +15,7 @@ pub struct Entry {
     pub length: u16,
 }
 
-// What is left of a path at any depth: from 16 on, all of it.
+// What is left of a path at any depth: from 16 on, all of it. The search at each tick masks by `Depth::residue`, which tests nothing.
 fn shortened(path: u16, depth: u8) -> u16
     ensures { result ≡ path % 2 ^ depth }
 {

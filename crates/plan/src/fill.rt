@@ -1,6 +1,6 @@
 // Filling a plan: every test is made, in the order of the refusals' numbers, before anything changes.
-ghost use Rattle.std.specs.Prelude.{◌≡◌, ℕ, ◌<◌, ◌≤◌, length, IfOk, MatchOption};
-ghost use Rattle.plan.specs.Entries.{NoClash, at};
+ghost use Rattle.std.specs.Prelude.{◌≡◌, length, IfOk, MatchOption};
+ghost use Rattle.plan.specs.Entries.{NoClash};
 ghost use Rattle.plan.specs.Filled.{Filled, Shared};
 ghost use Rattle.plan.specs.Told.{Told, Only, Ranged, FirstOutside, FirstClash};
 

@@ -1,7 +1,6 @@
 // A plan, and who it says owns each tick.
-ghost use Rattle.std.specs.Prelude.{◌≡◌, ℕ, ◌*◌, ◌^◌, ◌≤◌, [], ℤ, All, find, Option};
+ghost use Rattle.std.specs.Prelude.{◌≡◌, ℕ, ◌*◌, ◌^◌, ◌≤◌, [], All, find, Option};
 ghost use Rattle.std.specs.Option.{option_map};
-ghost use Rattle.clock.specs.Floor.{floor_mod};
 ghost use Rattle.plan.specs.Entries.{covers};
 ghost use Rattle.plan.specs.Owners.{OwnedBy, owner_in};
 ghost use Rattle.plan.specs.Told.{Sound};

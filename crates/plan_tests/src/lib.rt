@@ -6,7 +6,7 @@
 mod tests {
     use bars::line;
     use cases::example_plan;
-    use cases::parts::{deep_entries, is_example};
+    use cases::parts::{deep_entries, entry, is_example};
     use clock::{BasePeriod, Cycle, Place};
     use plan::entry::Entry;
     use plan::fault::PlanFault;
@@ -140,13 +140,7 @@ mod tests {
     #[test]
     fn fields_refused(rt: HostRuntime) -> Result<(), Fail> {
         let mut plan = example_plan(rt.alloc())?;
-        let good = Entry {
-            activity: 15,
-            depth: 1,
-            path: 1,
-            offset: 3,
-            length: 1,
-        };
+        let good = entry(15, 1, 1, 3, 1);
         let bad = [
             Entry {
                 activity: 16,
@@ -181,27 +175,9 @@ mod tests {
     #[test]
     fn clashes_refused(rt: HostRuntime) -> Result<(), Fail> {
         let mut plan = example_plan(rt.alloc())?;
-        let shallow = Entry {
-            activity: 0,
-            depth: 1,
-            path: 1,
-            offset: 0,
-            length: 2,
-        };
-        let deep = Entry {
-            activity: 1,
-            depth: 2,
-            path: 3,
-            offset: 1,
-            length: 2,
-        };
-        let other = Entry {
-            activity: 2,
-            depth: 2,
-            path: 1,
-            offset: 2,
-            length: 1,
-        };
+        let shallow = entry(0, 1, 1, 0, 2);
+        let deep = entry(1, 2, 3, 1, 2);
+        let other = entry(2, 2, 1, 2, 1);
         assert_eq!(rt;
             plan.fill(4, 2, &[shallow, other, deep]),
             Err(PlanFault::Clash {

@@ -1,7 +1,7 @@
 // The check of a list of reservations against a timetable.
 ghost use Rattle.std.specs.Prelude.{◌≡◌, ℕ, ◌<◌, ◌≤◌, length, All, ℤ, Option, Err, MatchResult, MatchBool, sum_by, MatchOption, ◌≢◌};
 ghost use Rattle.reservation.specs.declared.fault.CheckFault.TheVariants.{Overbooked};
-ghost use Rattle.reservation.specs.Reservations.{InRange, Ranged, Repeats, New, Distinct, AllServed, at, share};
+ghost use Rattle.reservation.specs.Reservations.{InRange, Ranged, Distinct, AllServed, at, share};
 ghost use Rattle.reservation.specs.Told.{FirstOutside, FirstTwice, FirstUnserved, Told, Only};
 
 use crate::fault::CheckFault;

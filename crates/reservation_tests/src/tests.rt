@@ -9,7 +9,6 @@ use reservation::check::check;
 use reservation::fault::CheckFault;
 use reservation::reservation::Reservation;
 use std::alloc::Global;
-use std::array;
 use std::test::Fail;
 use timetable::shift::Shift;
 
@@ -33,12 +32,20 @@ fn outside(index: usize) -> Result<(), CheckFault> {
 
 // The activities 0, 1, 2 and so on, each 1 tick out of every 16: together all ticks, exactly.
 fn turns() -> [Reservation; 17] {
-    array::from_fn(|k| reserve(k as u8, 1, 16))
+    let mut list = [reserve(0, 1, 16); 17];
+    for (activity, place) in (0..17u8).zip(&mut list) {
+        *place = reserve(activity, 1, 16);
+    }
+    list
 }
 
 // A frame of 16 ticks, one for each activity.
 fn slots() -> [Entry; 16] {
-    array::from_fn(|k| entry(k as u8, 0, 0, k as u16, 1))
+    let mut entries = [entry(0, 0, 0, 0, 1); 16];
+    for (activity, place) in (0..16u8).zip(&mut entries) {
+        *place = entry(activity, 0, 0, u16::from(activity), 1);
+    }
+    entries
 }
 
 #[test]
