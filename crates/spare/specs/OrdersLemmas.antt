@@ -2,7 +2,7 @@
 use Rattle.std.specs.Prelude.{◌≡◌, ℕ, zero, suc, ◌+◌, ◌-◌, ◌<◌, ◌≤◌, Bool, true, false, ◌||◌, not, cond, Decides, List, [], ◌∷◌, ◌++◌, length, take, drop, Some, None, ◌==◌, ◌≢◌, slice_index, slice_index_or, slice_range, refl}
 use borrow.Rule.Slice.PartMut.{put_mid, post_of}
 use Rattle.std.proofs.Common.{⊎_elim, sym, ap, subst, ◌∙◌, arith}
-use Rattle.std.proofs.lemmas.List.{take_all, drop_all, length-drop, append-nil, get_or_append_left, get_or-append_right, get_or_push, length-append}
+use Rattle.std.proofs.lemmas.List.{take_all, drop_all, length-take, length-drop, append-nil, take-append-drop, get_or-take, get_or_append_left, get_or-append_right, get_or_push, length-append}
 use Rattle.std.proofs.lemmas.Bool.{eqb-true, eq-eqb, cases_order, cases_lt, both_ways}
 use Rattle.std.specs.List.{list_any}
 use Rattle.std.proofs.lemmas.List.Sums.{position_or_len_is, fails_before_first, passes_at_first}
@@ -55,26 +55,20 @@ times_append a (x ∷ xs) ys = ap (λ n. cond (x == a) (suc n) n) (times_append 
 
 -- what stands where after the move
 pub length_moved : (xs : List ℕ) (i : ℕ) → length (moved xs i) ≡ length xs
-length_moved [] zero = refl
-length_moved [] (suc i) = refl
-length_moved (x ∷ xs) zero = length-append xs (x ∷ []) ∙ omega arith
-length_moved (x ∷ xs) (suc i) = ap suc (length_moved xs i)
-
-at_end : (t : Bool) (n : ℕ) → n + cond t 1 0 ≡ cond t (suc n) n
-at_end true n = omega arith
-at_end false n = omega arith
+length_moved xs i = simp (length-append, length-take, length-drop) (omega arith)
 
 pub times_moved : (a : ℕ) (xs : List ℕ) (i : ℕ) → times a (moved xs i) ≡ times a xs
-times_moved a [] zero = refl
-times_moved a [] (suc i) = refl
-times_moved a (x ∷ xs) zero = times_append a xs (x ∷ []) ∙ at_end (x == a) (times a xs)
-times_moved a (x ∷ xs) (suc i) = ap (λ n. cond (x == a) (suc n) n) (times_moved a xs i)
+times_moved a xs i =
+    let ys = drop i xs in
+    let parts = times_append a (take i xs) (drop 1 ys ++ take 1 ys) in
+    let turned = times_append a (drop 1 ys) (take 1 ys) in
+    let rest : times a (take 1 ys) + times a (drop 1 ys) ≡ times a ys = sym (times_append a (take 1 ys) (drop 1 ys)) ∙ ap (times a) (take-append-drop 1 ys) in
+    let whole : times a (take i xs) + times a ys ≡ times a xs = sym (times_append a (take i xs) ys) ∙ ap (times a) (take-append-drop i xs) in
+    omega arith
 
 pub moved_below : (xs : List ℕ) (i k : ℕ) → k < i → i < length xs → slice_index (moved xs i) k ≡ slice_index xs k
-moved_below [] i k h l = absurd (omega arith)
-moved_below (x ∷ xs) zero k h l = absurd (omega arith)
-moved_below (x ∷ xs) (suc i) zero h l = refl
-moved_below (x ∷ xs) (suc i) (suc k) h l = moved_below xs i k (omega arith) (omega arith)
+moved_below xs i k h l =
+    get_or_append_left (take i xs) (drop 1 (drop i xs) ++ take 1 (drop i xs)) 0 k (omega (arith, length-take i xs)) ∙ get_or-take i xs k 0 h
 
 pub moved_above : (xs : List ℕ) (i k : ℕ) → i ≤ k → suc k < length xs → slice_index (moved xs i) k ≡ slice_index xs (suc k)
 moved_above [] i k h l = absurd (omega arith)
