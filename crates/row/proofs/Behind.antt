@@ -35,7 +35,6 @@ module _ (xs ys t : List ℕ) (a n : ℕ) (len : length xs ≡ n) (fits : a ≤ 
   pub put_behind : (size : ℕ) → Ok size ≡ row_room t (take (n - a) (drop a xs)) → take (a + size) (put_mid a (n - a) xs ys) ≡ take a xs ++ t
   put_behind size r =
       let room = has_room t (take (n - a) (drop a xs)) size r in
-      let all : a + length t ≤ length xs = omega (arith, room.0, lend) in
       let front : length (take a xs ++ t) ≡ a + length t = length-append (take a xs) t ∙ ap (λ k. k + length t) front_length in
       let there : put_mid a (n - a) xs ys ≡ (take a xs ++ t) ++ drop (a + length t) xs =
       ap (λ k. put_mid a (k - a) xs ys) (sym len)
