@@ -55,9 +55,3 @@ module _ (xs ys t : List ℕ) (a n : ℕ) (len : length xs ≡ n) (fits : a ≤ 
       let less = no_room t (take (n - a) (drop a xs)) f r in
       let size : a ≡ 0 = sym front_length ∙ ap length none in
       omega (arith, less.1, lend)
-
--- a row that is written alone is the front of its buffer
-pub front_of : (xs ys t : List ℕ) (size : ℕ) → ys ≡ placed t xs → Ok size ≡ row_room t xs → take size ys ≡ t
-front_of xs ys t size e r =
-    let room = has_room t xs size r in
-    ap (λ k. take k ys) room.1 ∙ (ap (take (length t)) (e ∙ placed_is t xs room.0) ∙ take_at t (drop (length t) xs) (length t) refl)
