@@ -35,7 +35,6 @@ module _ (xs ys t : List ℕ) (a n : ℕ) (len : length xs ≡ n) (fits : a ≤ 
   pub put_behind : (size : ℕ) → Ok size ≡ row_room t (take (n - a) (drop a xs)) → take (a + size) (put_mid a (n - a) xs ys) ≡ take a xs ++ t
   put_behind size r =
       let room = has_room t (take (n - a) (drop a xs)) size r in
-      let all : a + length t ≤ length xs = omega (arith, room.0, lend) in
       let front : length (take a xs ++ t) ≡ a + length t = length-append (take a xs) t ∙ ap (λ k. k + length t) front_length in
       let there : put_mid a (n - a) xs ys ≡ (take a xs ++ t) ++ drop (a + length t) xs =
       ap (λ k. put_mid a (k - a) xs ys) (sym len)
@@ -56,9 +55,3 @@ module _ (xs ys t : List ℕ) (a n : ℕ) (len : length xs ≡ n) (fits : a ≤ 
       let less = no_room t (take (n - a) (drop a xs)) f r in
       let size : a ≡ 0 = sym front_length ∙ ap length none in
       omega (arith, less.1, lend)
-
--- a row that is written alone is the front of its buffer
-pub front_of : (xs ys t : List ℕ) (size : ℕ) → ys ≡ placed t xs → Ok size ≡ row_room t xs → take size ys ≡ t
-front_of xs ys t size e r =
-    let room = has_room t xs size r in
-    ap (λ k. take k ys) room.1 ∙ (ap (take (length t)) (e ∙ placed_is t xs room.0) ∙ take_at t (drop (length t) xs) (length t) refl)

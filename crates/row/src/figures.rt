@@ -17,6 +17,7 @@ pub(crate) fn write_u32(out: &mut [u8], n: u32) -> usize
 {
     let count = digit_count(n);
     let mut left = n;
+    // By index: what is written through `iter_mut` is not known afterwards.
     for at in (1..count).rev() {
         out[at] = b'0' + (left % 10) as u8;
         left /= 10;
