@@ -48,11 +48,7 @@ pub fn rehearse<S: Sink>(
     ensures once { RowsOnce }
 {
     let mut plan = Plan::empty(heap);
-    let mut list = [Reservation {
-        activity: 0,
-        ticks: 0,
-        period: 0,
-    }; 16];
+    let mut list = [Reservation::default(); 16];
     match load(sheet, &mut plan, &mut list) {
         Ok(_) => rehearse_on(plan, script, sink).map_err(RehearsalFault::Output),
         Err(fault) => match fault.number() {
