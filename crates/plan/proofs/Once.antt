@@ -1,6 +1,5 @@
 -- Filling a plan has one answer: what each says of the input shuts the others out.
-use Rattle.std.proofs.Common.{◌≡◌, ℕ, ◌<◌, ◌≤◌, List, length, Some, Ok, Err, Result, sym, refl, ap, subst, ⊎_elim, arith}
-use Rattle.std.proofs.lemmas.Bool.{cases_order}
+use Rattle.std.proofs.Common.{◌≡◌, ℕ, ◌<◌, ◌≤◌, List, length, Some, Ok, Err, Result, sym, refl, ap, subst, arith}
 use Rattle.plan.specs.declared.entry.Entry.{Entry}
 use Rattle.plan.specs.declared.fault.PlanFault.{PlanFault}
 use Rattle.plan.specs.declared.fault.PlanFault.TheVariants.{Dimensions, TooManyEntries, OutOfRange, Clash, Memory}
@@ -18,7 +17,7 @@ not_apart es j i f h = h j f.within i f.order f.clash
 
 -- two numbers of which neither is below the other
 neither : (i j : ℕ) → (i < j → ⊥) → (j < i → ⊥) → i ≡ j
-neither i j a b = ⊎_elim (λ e. e) (λ h. ⊎_elim (λ l. absurd (a l)) (λ l. absurd (b l)) h) (cases_order i j)
+neither i j a b = omega (arith, a, b)
 
 same_outside : (b d : ℕ) (es : List Entry) (i j : ℕ) → FirstOutside b d es i → FirstOutside b d es j → i ≡ j
 same_outside b d es i j f g = neither i j (λ l. f.outside (g.before i l)) (λ l. g.outside (f.before j l))

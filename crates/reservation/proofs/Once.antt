@@ -1,6 +1,5 @@
 -- The check has one answer: what each says of a list shuts the others out.
-use Rattle.std.proofs.Common.{◌≡◌, ℕ, ◌<◌, ◌≤◌, List, length, ℤ, pos, Ok, Err, sum_by, Option, Result, refl, ap, subst, ⊎_elim, arith}
-use Rattle.std.proofs.lemmas.Bool.{cases_order}
+use Rattle.std.proofs.Common.{◌≡◌, ℕ, ◌<◌, ◌≤◌, List, length, ℤ, pos, Ok, Err, sum_by, Option, Result, refl, ap, subst, arith}
 use Rattle.reservation.specs.declared.reservation.Reservation.{Reservation}
 use Rattle.reservation.specs.declared.fault.CheckFault.{CheckFault}
 use Rattle.reservation.specs.declared.fault.CheckFault.TheVariants.{TooMany, OutOfRange, Twice, Short, Overbooked}
@@ -29,7 +28,7 @@ not_served owner l rs k t n f h = short_not owner l (at rs k) t n f.window (h k 
 
 -- two numbers of which neither is below the other
 neither : (i j : ℕ) → (i < j → ⊥) → (j < i → ⊥) → i ≡ j
-neither i j a b = ⊎_elim (λ e. e) (λ h. ⊎_elim (λ l. absurd (a l)) (λ l. absurd (b l)) h) (cases_order i j)
+neither i j a b = omega (arith, a, b)
 
 same_outside : (rs : List Reservation) (i j : ℕ) → FirstOutside rs i → FirstOutside rs j → i ≡ j
 same_outside rs i j f g = neither i j (λ l. f.outside (g.before i l)) (λ l. g.outside (f.before j l))

@@ -5,7 +5,7 @@ use native.Mathlib.Nat.{div-le_of_le-mul}
 use Rattle.std.proofs.ByRecursion.{All-from_get_or, All-weaker}
 use Rattle.std.proofs.lemmas.List.{take_all}
 use Rattle.std.proofs.lemmas.List.Sums.{sum_by-cons, sum_by_more}
-use Rattle.std.proofs.lemmas.Bool.{eqb-true, cases_Bool, cond-true, cond-false}
+use Rattle.std.proofs.lemmas.Bool.{eqb-true, false≢true, cases_Bool, cond-true, cond-false}
 use Rattle.std.specs.List.{AllByRecursion}
 use Rattle.reservation.specs.declared.reservation.Reservation.{Reservation}
 use Rattle.reservation.specs.Reservations.{InRange, IsServed, New, Distinct, AllServed, share, at, blank}
@@ -80,7 +80,7 @@ data Owners (owner : ℤ → Option ℕ) (t : ℤ) (rs : List Reservation) (n s 
   one_of : (j : ℕ) → j < n → owner t ≡ Some (at rs j).activity → s ≡ 1 → Owners owner t rs n s
 
 is_owner_lem : (o : Option ℕ) (a : ℕ) → is_owner o a ≡ true → o ≡ Some a
-is_owner_lem None a e = let z : ◌≡◌ {A = ℕ} 0 1 = (let f : false ≡ true = e in cc) in absurd (omega arith)
+is_owner_lem None a e = absurd (false≢true e)
 is_owner_lem (Some b) a e = ap Some (eqb-true b a e)
 
 -- 1 where a reservation's activity owns the tick
