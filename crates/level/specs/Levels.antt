@@ -2,6 +2,7 @@
 use Rattle.std.specs.Prelude.{◌≡◌, ℕ, Bool, cond, not, ◌&&◌, ℤ, pos, ◌+ℤ◌, None, Ok, Err, Option, Result, int_lt, slice_index}
 use Rattle.timetable.specs.declared.table.Timetable.{Ghosts as Timetables}
 use Rattle.spare.specs.declared.rule.SpareRule.{Ghosts as SpareRules}
+use Rattle.spare.specs.Asking.{CallOf}
 use Rattle.spare.specs.Sets.{is_ready}
 use Rattle.level.specs.declared.level.Level.{Level}
 use Rattle.level.specs.declared.ticked.Letter.{Letter}
@@ -35,6 +36,13 @@ meaning ts rs l = record {
   used = λ a. slice_index l.inner.used a;
   rule = record { distance = rs.distance l.rule; patience = rs.patience l.rule };
 }
+
+-- the timetable of a level, and its spare rule
+abbrev pub timetable_of : {T R : Type 0} → Level T R → T
+timetable_of l = l.timetable
+
+abbrev pub rule_of : {T R : Type 0} → Level T R → R
+rule_of l = l.rule
 
 -- what a level is opened with
 abbrev pub opening : {T R : Type 0} → Timetables T → SpareRules R → ℤ → T → R → Opening
@@ -74,6 +82,10 @@ Asked call ready before Idle runner after = after ≡ before
 abbrev pub Asks : {R : Type 0} → (R → (ℕ → Bool) → Option ℕ → R → Type 0) → (ℕ → Bool) → R → Result Ticked Refusal → R → Type 0
 Asks call ready before (Ok e) after = Asked call ready before e.letter e.runner after
 Asks call ready before (Err r) after = after ≡ before
+
+-- of a tick: whether the rule of the level was asked, and what came of it
+abbrev pub AsksOnce : {T R : Type 0} → SpareRules R → Level T R → Result Ticked Refusal → Level T R → Type 0
+AsksOnce rs l result k = Asks (CallOf rs) (is_ready l.inner.ready) l.rule result k.rule
 
 -- a refusal hands the ticket back
 abbrev pub TicketBack : {X : Type 0} → Ticket → Result X (Refusal × Ticket) → Type 0

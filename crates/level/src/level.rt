@@ -1,6 +1,6 @@
 // A level, and its opening.
 ghost use Rattle.std.specs.Prelude.{◌≡◌, ℕ, ℤ};
-ghost use Rattle.level.specs.Levels.{meaning, opening, Opened};
+ghost use Rattle.level.specs.Levels.{meaning, opening, timetable_of, rule_of, Opened};
 
 use crate::inner::Inner;
 use spare::rule::SpareRule;
@@ -18,8 +18,8 @@ impl<T: Timetable, R: SpareRule> Level<T, R> {
     /// Opens a level: all activities are blocked, and all seats unused. It never refuses.
     pub fn open(number: u32, clock: i32, timetable: T, rule: R) -> Level<T, R>
         ensures opened { Opened number (opening T.Timetable R.SpareRule clock timetable rule) (meaning T.Timetable R.SpareRule result) }
-        ensures timetable { result.timetable ≡ timetable }
-        ensures rule { result.rule ≡ rule }
+        ensures timetable { timetable_of result ≡ timetable }
+        ensures rule { rule_of result ≡ rule }
     {
         Level {
             timetable,

@@ -1,6 +1,6 @@
 // What can be asked of a level. No question changes it.
 ghost use Rattle.std.specs.Prelude.{◌≡◌, ℕ, ℤ};
-ghost use Rattle.level.specs.Levels.{meaning, Calls, used_event};
+ghost use Rattle.level.specs.Levels.{meaning, timetable_of, rule_of, Calls, used_event};
 
 use crate::activity::known;
 use crate::constraint::Constraint;
@@ -59,14 +59,14 @@ impl<T: Timetable, R: SpareRule> Level<T, R> {
 
     /// The timetable that the level was opened with.
     pub fn timetable(&self) -> &T
-        ensures { result.now ≡ self.now.timetable }
+        ensures { result.now ≡ timetable_of self.now }
     {
         &self.timetable
     }
 
     /// The spare rule, as it stands now.
     pub fn rule(&self) -> &R
-        ensures { result.now ≡ self.now.rule }
+        ensures { result.now ≡ rule_of self.now }
     {
         &self.rule
     }

@@ -1,8 +1,6 @@
 // Ticks are run.
 ghost use Rattle.std.specs.Prelude.{◌≡◌, ℕ, ℤ};
-ghost use Rattle.spare.specs.Asking.{CallOf};
-ghost use Rattle.spare.specs.Sets.{is_ready};
-ghost use Rattle.level.specs.Levels.{meaning, Called, tick_event, Asks};
+ghost use Rattle.level.specs.Levels.{meaning, timetable_of, Called, tick_event, AsksOnce};
 
 use crate::level::Level;
 use crate::refusal::Refusal;
@@ -15,8 +13,8 @@ impl<T: Timetable, R: SpareRule> Level<T, R> {
     /// unmarked one by its owner, if that is; else the spare rule is asked, once, who of all that are ready runs it.
     pub fn tick(&mut self) -> Result<Ticked, Refusal>
         ensures called { Called (meaning T.Timetable R.SpareRule self.old) (tick_event result) (meaning T.Timetable R.SpareRule self.new) }
-        ensures asks { Asks (CallOf R.SpareRule) (is_ready self.old.inner.ready) self.old.rule result self.new.rule }
-        ensures timetable { self.new.timetable ≡ self.old.timetable }
+        ensures asks { AsksOnce R.SpareRule self.old result self.new }
+        ensures timetable { timetable_of self.new ≡ timetable_of self.old }
     {
         if self.inner.at_end() {
             return Err(Refusal::ClockAtEnd);
