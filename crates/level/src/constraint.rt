@@ -8,5 +8,6 @@ pub struct Constraint {
     pub deadline: i32,
     pub estimate: u16,
     pub ran: u32,
+    // A flag: it says one thing, and no value stands beside it that it would give a meaning.
     pub out: bool,
 }

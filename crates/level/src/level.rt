@@ -7,6 +7,7 @@ use spare::rule::SpareRule;
 use timetable::table::Timetable;
 
 /// Sixteen activities and sixteen seats that share one clock, over a timetable and a spare rule. No call of it allocates.
+// No model: what a level means (`meaning` in specs/) has functions in it, and a model's value is data.
 #[derive(Drop)]
 pub struct Level<T: Timetable, R: SpareRule> {
     pub(crate) timetable: T,

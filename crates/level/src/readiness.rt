@@ -8,6 +8,7 @@ use crate::refusal::Refusal;
 use spare::rule::SpareRule;
 use timetable::table::Timetable;
 
+// Two calls of two lines: a function of both would take the one word that differs, a method of the set, and be no shorter.
 impl<T: Timetable, R: SpareRule> Level<T, R> {
     /// The activity is ready from now on. Waking one that is ready already is allowed.
     pub fn wake(&mut self, activity: u16) -> Result<(), Refusal>

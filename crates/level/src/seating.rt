@@ -7,6 +7,7 @@ use crate::constraint::Constraint;
 use crate::inner::Inner;
 use crate::ticket::Ticket;
 
+// That a seat is below 16 is asked of who calls: a `Ticket` has no such fact, since the promises speak of any level and seat.
 impl Inner {
     // What the seat holds; one above 15 holds nothing.
     pub(crate) fn held(&self, seat: u16) -> Option<Constraint>

@@ -41,6 +41,7 @@ impl PlanFault {
     }
 }
 
+// By hand, since what `#[from]` writes has no contract, and `fill` needs this one's.
 impl From<AllocError> for PlanFault {
     ghost from_gives = { λ _ r. r ≡ Memory };
 

@@ -2,7 +2,9 @@
 use Rattle.std.specs.Prelude.{◌≡◌, ℕ, ◌-◌, ◌<◌, ◌⊎◌, List, [], Some, None, Option}
 use Rattle.timetable.specs.declared.table.Timetable.{Ghosts as Timetables}
 use Rattle.spare.specs.declared.rule.SpareRule.{Ghosts as SpareRules}
+use Rattle.level.specs.declared.level.Level.{Level}
 use Rattle.level.specs.Meaning.{Meaning}
+use Rattle.command.specs.Unread.{Unread}
 use Rattle.level.specs.Levels.{meaning}
 use Rattle.command.specs.declared.command.Command.{Command}
 use Rattle.command.specs.declared.command.Command.TheVariants.{Open, Wake, Block, Tick, Begin, End}
@@ -30,6 +32,13 @@ state ts rs s = record {
   ticks = s.ticks;
   level = meaning ts rs s.level;
 }
+
+-- a rehearsal that is still to play on this level all that the reader has
+pub record Starting {T R : Type 0} (text : Unread) (on : Level T R) (s : Rehearsal T R) : Type 0 where
+  pub reader : s.reader.rest ≡ text.rest
+  pub line : s.reader.line ≡ text.line
+  pub level : s.level ≡ on
+  pub ticks : s.ticks ≡ 0
 
 -- a refused tick ends its line
 abbrev pub ticks_after : Row → ℕ → ℕ

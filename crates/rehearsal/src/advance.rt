@@ -3,7 +3,7 @@ ghost use Rattle.std.specs.Prelude.{◌≡◌, ℕ, ◌<◌, true, [], ◌∷◌
 ghost use Rattle.command.specs.Grammar.{ReadsNumbered, ReadOnce};
 ghost use Rattle.command.specs.Reading.{next_line};
 ghost use Rattle.rehearsal.specs.Onwards.{standing, RunsTick, StopsAt, LineGoes, RunsNext, RunsOn};
-ghost use Rattle.rehearsal.specs.Rehearsals.{state, TickRun, Refused, Follows, NextLine, Goes};
+ghost use Rattle.rehearsal.specs.Rehearsals.{state, Starting, TickRun, Refused, Follows, NextLine, Goes};
 ghost use Rattle.rehearsal.specs.Stages.{rows_in};
 
 use crate::play::{play_begin, play_block, play_end, play_tick, play_wake};
@@ -18,10 +18,7 @@ use timetable::table::Timetable;
 impl<'a, T: Timetable, R: SpareRule> Rehearsal<'a, T, R> {
     /// A rehearsal that plays on the level what the reader still has.
     pub fn new(reader: Reader<'a>, level: Level<T, R>) -> Rehearsal<'a, T, R>
-        ensures reader { result.reader.rest ≡ reader.entry.rest }
-        ensures line { result.reader.line ≡ reader.entry.line }
-        ensures level { result.level ≡ level }
-        ensures ticks { result.ticks ≡ 0 }
+        ensures { Starting reader.entry level result }
     {
         Rehearsal {
             reader,

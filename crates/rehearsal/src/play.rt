@@ -10,6 +10,8 @@ use row::row::Row;
 use spare::rule::SpareRule;
 use timetable::table::Timetable;
 
+// A wake and a block are played by two functions of two lines: one for both would take the call and the row as closures.
+
 /// Plays `w A`: nothing is told where the level accepts it.
 pub fn play_wake<T: Timetable, R: SpareRule>(level: &mut Level<T, R>, activity: u16) -> Option<Row>
     ensures calls { Woken (meaning T.Timetable R.SpareRule level.old) activity result (meaning T.Timetable R.SpareRule level.new) }

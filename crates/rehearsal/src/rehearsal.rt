@@ -6,6 +6,7 @@ use spare::rule::SpareRule;
 use timetable::table::Timetable;
 
 /// A script that is played on a level. It is asked for one call after another, and allocates nothing.
+// No model, as `Level` has none: `state` and `standing` in specs/ say where it stands.
 #[derive(Drop)]
 pub struct Rehearsal<'a, T: Timetable, R: SpareRule> {
     pub(crate) reader: Reader<'a>,
@@ -14,6 +15,7 @@ pub struct Rehearsal<'a, T: Timetable, R: SpareRule> {
 }
 
 /// What comes of one call of a rehearsal.
+// Three ways: an `Option<Option<Row>>` would not say which of its two ends is the end.
 #[derive(Clone, Copy)]
 pub enum Progress {
     /// This row.

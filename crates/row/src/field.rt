@@ -5,7 +5,7 @@ ghost use Rattle.row.specs.Fields.{field_text, fields_text, size_of, is_short};
 
 use crate::figures::{digit_count, write_u32};
 
-// One part of a row.
+// One part of a row. That one is short is said where it is made (`is_short`): an enum can have no model.
 #[derive(Clone, Copy)]
 pub(crate) enum Field {
     Text(&'static [u8]),

@@ -19,6 +19,7 @@ pub enum Failure {
     Held { refusal: Refusal, ticket: Ticket },
 }
 
+// By hand, since a derived one has no contract, and `?` needs what this one gives.
 impl From<Refusal> for Failure {
     ghost from_gives = { λ refusal r. r ≡ Missing refusal };
 
