@@ -50,7 +50,7 @@ pub fn line<T: Timetable>(
 {
     let columns = 2 * timetable.cycle().ticks + 1;
     let mut text = String::with_capacity(heap, usize::from(columns))?;
-    // A loop, since a push can run out of memory.
+    // A loop: with `collect` (tried) the proof does not know which character stands where.
     for column in 0..columns {
         text.push(character(timetable, who, column))?;
     }

@@ -1,6 +1,5 @@
 // Worked examples: a plan that a person can follow on paper, and what the definitions say of it.
-// It uses every layer of which it has an example: `timetable`, `plan`, `reservation`, `spare` and
-// `level`.
+// It uses every layer of which it has an example: `clock`, `timetable`, `plan`, `reservation`, `spare` and `level`.
 #![tactic(auto)]
 
 ghost use Rattle.std.specs.Prelude.{◌≡◌, length, IfOk, None};

@@ -25,10 +25,7 @@ impl Reader<'_> {
         ensures after { GoesOn result self.old (field_rest self.old.rest) self.new }
     {
         let count = self.field(9999)?;
-        if count == 0 {
-            return None;
-        }
-        Some(Command::Tick { count })
+        (count != 0).then_some(Command::Tick { count })
     }
 
     // ` SEAT A START DEADLINE E`
@@ -52,6 +49,7 @@ impl Reader<'_> {
         ensures value { result ≡ fields_in letter self.old.rest }
         ensures after { GoesOn result self.old (fields_rest letter self.old.rest) self.new }
     {
+        // Letters as characters: the project's form for commands.
         match letter as char {
             'o' => self.open_fields(),
             'w' => Some(Command::Wake {

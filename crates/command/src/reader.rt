@@ -6,6 +6,7 @@ ghost use Rattle.command.specs.Reading.{is_digit, nat_after, fitting, first_of, 
 use std::marker::Model;
 
 /// The bytes of a script, the place up to which they are read, and the number of the line there, counted from 1.
+// The place is a field, and not the slice of what is left: a reader with its place is the project's form.
 #[derive(Drop)]
 pub struct Reader<'a> {
     bytes: &'a [u8],

@@ -7,7 +7,7 @@ use Rattle.level.specs.declared.ticked.Letter.{Letter}
 use Rattle.level.specs.declared.ticked.Letter.TheVariants.{Constrained, Reserved, Spare, Idle}
 use Rattle.level.specs.declared.ticked.Ticked.{Ticked}
 use Rattle.level.specs.declared.refusal.Refusal.{Refusal}
-use Rattle.level.specs.declared.refusal.Refusal.TheVariants.{UnknownActivity}
+use Rattle.level.specs.declared.refusal.Refusal.TheVariants.{UnknownActivity, InvalidTicket}
 use Rattle.level.specs.declared.ticket.Ticket.{Ticket}
 use Rattle.level.specs.Board.{holder, turned, without}
 use Rattle.level.specs.Seats.{seat_at, one_more}
@@ -123,6 +123,16 @@ pub record TicketIsOut (i : Inner) (x : Ticket) : Type 0 where
 
 abbrev pub TicketIsInvalid : Inner → Ticket → Type 0
 TicketIsInvalid i x = (x.level ≢ i.number) ⊎ NotOut (seat_at i.seats x.seat)
+
+-- a ticket that is spent tells its seat
+pub record Redeemed (i : Inner) (x : Ticket) (seat : ℕ) : Type 0 where
+  pub is_out : TicketIsOut i x
+  pub same : seat ≡ x.seat
+
+-- one that is not comes back
+pub record Rejected (i : Inner) (x : Ticket) (back : Refusal × Ticket) : Type 0 where
+  pub invalid : TicketIsInvalid i x
+  pub told : back ≡ (InvalidTicket, x)
 
 pub record TicketIsLeft (i : Inner) (s : ℕ) : Type 0 where
   pub known : s < 16

@@ -49,6 +49,7 @@ impl<T: Timetable, R: SpareRule> Level<T, R> {
             ran: 0,
             out: true,
         };
+        // It fits, as was just tested: `try_from` would bring an error that can't come.
         Ok((seat as u8, constraint))
     }
 

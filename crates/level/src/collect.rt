@@ -16,6 +16,7 @@ impl<T: Timetable, R: SpareRule> Level<T, R> {
         if !self.inner.has_left(seat) {
             return Err(Refusal::NoTicketLeft);
         }
+        // It fits, since only a seat below 16 has a ticket left.
         let seat = seat as u8;
         self.inner.hand_ticket(seat, true);
         Ok(Ticket {

@@ -42,7 +42,8 @@ impl<T: Timetable, R: SpareRule> Level<T, R> {
         }
     }
 
-    // Asks the rule, if anybody is ready.
+    // Asks the rule, if anybody is ready. That runner and seat are below 16 is said here and where the tick is counted (`Small`), and is
+    // no fact of `Ticked`, whose fields are public.
     fn ask(&mut self) -> Ticked
         ensures tick { result.tick ≡ self.old.inner.clock }
         ensures given { SpareIn (meaning T.Timetable R.SpareRule self.old) result.letter result.runner (meaning T.Timetable R.SpareRule self.new) }

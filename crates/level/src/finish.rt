@@ -15,10 +15,7 @@ impl<T: Timetable, R: SpareRule> Level<T, R> {
         ensures called { Calls T.Timetable R.SpareRule self.old (end_event ticket result) self.new }
         ensures back { TicketBack ticket result }
     {
-        if !self.inner.accepts(&ticket) {
-            return Err((Refusal::InvalidTicket, ticket));
-        }
-        let Ticket { level: _, seat } = ticket;
+        let seat = self.inner.redeem(ticket)?;
         Ok(self.inner.free_seat(seat))
     }
 
@@ -27,10 +24,7 @@ impl<T: Timetable, R: SpareRule> Level<T, R> {
         ensures called { Calls T.Timetable R.SpareRule self.old (leave_event ticket result) self.new }
         ensures back { TicketBack ticket result }
     {
-        if !self.inner.accepts(&ticket) {
-            return Err((Refusal::InvalidTicket, ticket));
-        }
-        let Ticket { level: _, seat } = ticket;
+        let seat = self.inner.redeem(ticket)?;
         self.inner.hand_ticket(seat, false);
         Ok(())
     }

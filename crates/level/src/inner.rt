@@ -14,6 +14,7 @@ use spare::ready::ReadySet;
 pub(crate) struct Inner {
     pub(crate) number: u32,
     pub(crate) clock: i32,
+    // No one table with `used`: the rule is given this set as it is.
     pub(crate) ready: ReadySet,
     pub(crate) board: Board,
     pub(crate) seats: [Option<Constraint>; 16],

@@ -24,6 +24,8 @@ fn kind_at<T: Timetable>(board: &Board, timetable: &T, activity: u8, t: i32) -> 
     }
 }
 
+// The passes take board, timetable and constraint by themselves: a struct of the three would lend the board for one pass only.
+
 // How many of the ticks in a constraint's window are there to be marked.
 fn survey<T: Timetable>(board: &Board, timetable: &T, constraint: &Constraint) -> Supply
     requires { Near constraint.now }

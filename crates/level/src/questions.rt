@@ -51,6 +51,7 @@ impl<T: Timetable, R: SpareRule> Level<T, R> {
         ensures { result ≡ (meaning T.Timetable R.SpareRule self.now).marks t }
     {
         let ahead = i64::from(t) - i64::from(self.clock());
+        // By two tests: with `(0..1024).contains(&ahead)` (tried) the proof did not close.
         if ahead < 0 || ahead >= 1024 {
             return None;
         }

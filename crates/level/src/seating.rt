@@ -1,10 +1,11 @@
 // How the seats of a level change: one of them is lent and changed, and the other fifteen stay.
-ghost use Rattle.std.specs.Prelude.{◌≡◌, ℕ, ◌<◌, true, false, ℤ, MatchBool, Some};
+ghost use Rattle.std.specs.Prelude.{◌≡◌, ℕ, ◌<◌, true, false, ℤ, MatchBool, MatchResult, Some};
 ghost use Rattle.level.specs.Seats.{seat_at, handed};
-ghost use Rattle.level.specs.Parts.{Reseat, Freed, TicketIsOut, TicketIsInvalid, TicketIsLeft, NoTicketIsLeft};
+ghost use Rattle.level.specs.Parts.{Reseat, Freed, TicketIsOut, TicketIsInvalid, Redeemed, Rejected, TicketIsLeft, NoTicketIsLeft};
 
 use crate::constraint::Constraint;
 use crate::inner::Inner;
+use crate::refusal::Refusal;
 use crate::ticket::Ticket;
 
 // That a seat is below 16 is asked of who calls: a `Ticket` has no such fact, since the promises speak of any level and seat.
@@ -54,6 +55,17 @@ impl Inner {
             && self
                 .held(u16::from(ticket.seat))
                 .is_some_and(|held| held.out)
+    }
+
+    // The ticket is spent, if it is accepted, and tells its seat; else it comes back.
+    pub(crate) fn redeem(&self, ticket: Ticket) -> Result<u8, (Refusal, Ticket)>
+        ensures { MatchResult result (Redeemed self.now ticket) (Rejected self.now ticket) }
+    {
+        if !self.accepts(&ticket) {
+            return Err((Refusal::InvalidTicket, ticket));
+        }
+        let Ticket { level: _, seat } = ticket;
+        Ok(seat)
     }
 
     // Whether the seat's ticket was left.

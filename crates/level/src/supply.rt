@@ -2,7 +2,8 @@
 ghost use Rattle.std.specs.Prelude.{◌≡◌, ℕ, ◌+◌, ◌-◌, ◌<◌, nat_lt};
 ghost use Rattle.level.specs.Pass.{one, is_own, is_free, takes};
 
-// What a tick is to an activity that looks for ticks: its own, nobody's, or not to be had.
+// What a tick is to an activity that looks for ticks: its own, nobody's, or not to be had. Three cases of one question, and no
+// `Option` of two, since not to be had is an answer like the others.
 #[derive(Clone, Copy)]
 pub(crate) enum Kind {
     Own,

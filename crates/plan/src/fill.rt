@@ -26,7 +26,7 @@ fn first_outside(base: BasePeriod, depth: Depth, entries: &[Entry]) -> Option<us
 }
 
 // The first pair of entries that clash: the smallest later index, and with it the smallest earlier one.
-// Two loops, left at the first clash with its pair: their order is what makes it the first.
+// Nested loops, left by a label at the first clash with its pair: the project's form for this search.
 fn first_clash(entries: &[Entry]) -> Option<(usize, usize)>
     ensures { MatchOption result (NoClash entries.now (length entries.now)) (λ p. FirstClash entries.now p.0 p.1) }
 {

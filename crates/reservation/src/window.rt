@@ -38,6 +38,7 @@ pub(crate) fn first_short<T: Timetable>(timetable: &T, reservation: &Reservation
 {
     let activity = reservation.activity;
     let mut found = count_first(timetable, activity, reservation.period);
+    // A loop, since each count is made from the one before it.
     for start in 0..timetable.cycle().ticks {
         if found < reservation.ticks {
             return Some(Window { start, found });

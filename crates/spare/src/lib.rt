@@ -1,5 +1,6 @@
 // Who gets a spare tick: the set of ready activities, the interface that every rule for spare ticks meets, and the rules that
-// come with it. It uses no other crate but `thiserror`, for the texts of its refusals. Whoever proves something over the interface has it of every rule, a studio's own too.
+// come with it. It uses no other crate but `thiserror`, for the texts of its refusals.
+// Whoever proves something over the interface has it of every rule, a studio's own too.
 #![tactic(auto)]
 
 pub mod example;

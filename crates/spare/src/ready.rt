@@ -38,7 +38,7 @@ impl ReadySet {
     pub fn has(self, activity: u8) -> bool
         ensures { result ≡ is_ready self activity }
     {
-        activity < ACTIVITIES && self.members[activity as usize]
+        activity < ACTIVITIES && self.members[usize::from(activity)]
     }
 
     /// The set with this activity in it too; for a number above 15 the set as it is.
@@ -68,7 +68,7 @@ impl ReadySet {
         let mut members = self.members;
         // By index: after `get_mut` (tried) a proof has the length of what was written, and not its elements.
         if activity < ACTIVITIES {
-            members[activity as usize] = member;
+            members[usize::from(activity)] = member;
         }
         ReadySet { members }
     }
