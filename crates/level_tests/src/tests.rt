@@ -6,6 +6,7 @@ use level::refusal::Refusal;
 use level::ticked::{Letter, Ticked};
 use scripts::door::{close_door, open_door};
 use spare::queue::Queue;
+use std::test::Fail;
 
 fn free_level(number: u32, clock: i32) -> Level<Free, Queue> {
     Level::open(number, clock, Free, Queue::new())
@@ -168,4 +169,35 @@ fn a_ticket_of_another_level_comes_back(rt: HostRuntime) {
     );
     assert!(rt; home.seat(4).is_none());
     assert!(rt; other.seat(4).is_some());
+}
+
+#[test]
+fn texts_of_refusals(rt: HostRuntime) -> Result<(), Fail> {
+    let texts = [
+        (Refusal::ClockAtEnd, "1: the clock stands at its last value"),
+        (Refusal::UnknownActivity, "2: the activity is above 15"),
+        (Refusal::ZeroEstimate, "3: the estimate is 0"),
+        (Refusal::EarlyStart, "4: the start lies before the clock"),
+        (
+            Refusal::BadDeadline,
+            "5: the deadline does not come after the start, or lies over 1,024 ticks past the clock",
+        ),
+        (
+            Refusal::SeatUnavailable,
+            "6: the seat is above 15, or in use",
+        ),
+        (
+            Refusal::TooFew { available: 6 },
+            "7: only 6 ticks are available",
+        ),
+        (
+            Refusal::InvalidTicket,
+            "8: the ticket is of another level, or no ticket of its seat is out",
+        ),
+        (Refusal::NoTicketLeft, "9: no ticket was left at the seat"),
+    ];
+    for (refusal, text) in texts {
+        assert!(rt; refusal.to_string(rt.alloc())?.as_str() == text);
+    }
+    Ok(())
 }

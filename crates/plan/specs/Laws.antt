@@ -11,7 +11,7 @@ use Rattle.timetable.specs.Owners.{Known}
 use Rattle.plan.specs.declared.entry.Entry.{Entry}
 use Rattle.plan.specs.Entries.{InRange, owns, covers, blank}
 use Rattle.plan.specs.Owners.{owner_in}
-use Rattle.plan.specs.Told.{Ranged, Sound}
+use Rattle.plan.specs.Told.{Ranged}
 
 pub cycle_least : (b d : ℕ) → 1 ≤ b → 1 ≤ b * 2 ^ d
 cycle_least b d h = omega (arith, mul-le 1 1 b (2 ^ d) h (pow_pos d))
@@ -59,8 +59,8 @@ owner_known b d t [] w = tt
 owner_known b d t (e ∷ es) w = chosen_known (owns b e t) e.activity (owner_in b es t) w.0.0 (owner_known b d t es w.1)
 
 -- both for the entries of a plan, which are in range one by one
-pub owner_repeats : (t : ℤ) (b d : ℕ) (es : List Entry) → Sound b d es → owner_in b es (t +ℤ pos (b * 2 ^ d)) ≡ owner_in b es t
-owner_repeats t b d es s = owner_again t b d s.shaped.0 es (all_ranged b d es s.ranged)
+pub owner_repeats : (t : ℤ) (b d : ℕ) (es : List Entry) → 1 ≤ b → Ranged b d es (length es) → owner_in b es (t +ℤ pos (b * 2 ^ d)) ≡ owner_in b es t
+owner_repeats t b d es some w = owner_again t b d some es (all_ranged b d es w)
 
 pub owner_stays_known : (t : ℤ) (b d : ℕ) (es : List Entry) → Ranged b d es (length es) → Known (owner_in b es t)
 owner_stays_known t b d es w = owner_known b d t es (all_ranged b d es w)

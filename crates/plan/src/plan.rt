@@ -81,7 +81,7 @@ impl Timetable for Plan {
 
     ghost most = { λ p. cycle_most p.base p.depth p.sound.shaped.1 p.sound.shaped.2 };
 
-    ghost repeats = { λ p t. owner_repeats t p.base p.depth p.entries p.sound };
+    ghost repeats = { λ p t. owner_repeats t p.base p.depth p.entries p.sound.shaped.0 p.sound.ranged };
 
     ghost known = { λ p t. owner_stays_known t p.base p.depth p.entries p.sound.ranged };
 

@@ -20,7 +20,8 @@ fn first_outside(list: &[Reservation]) -> Option<usize>
         .position(|reservation| !reservation.is_in_range())
 }
 
-// Whether one of the first `count` reservations is for the activity.
+// Whether one of the first `count` reservations is for the activity. By a count: over `&list[..index]` (tried) the search for the
+// first such index did not prove.
 fn is_among(list: &[Reservation], count: usize, activity: u8) -> bool
     ensures { MatchBool result ((k : ℕ) × (k < count) × (k < length list.now) × ((at list.now k).activity ≡ activity)) ((k : ℕ) → k < count → k < length list.now → (at list.now k).activity ≢ activity) }
 {

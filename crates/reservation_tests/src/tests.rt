@@ -12,6 +12,7 @@ use std::alloc::Global;
 use std::test::Fail;
 use timetable::shift::Shift;
 
+// As `example_plan` is made, for plans that a test alone has.
 fn plan(heap: Global, base: u16, depth: u8, entries: &[Entry]) -> Result<Plan, PlanFault> {
     let mut plan = Plan::empty(heap);
     plan.fill(base, depth, entries)?;

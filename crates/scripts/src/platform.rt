@@ -25,6 +25,7 @@ pub fn shuttle<T: Timetable, R: SpareRule>(
     let start = level.clock();
     let turn = start.saturating_add(i32::from(length));
     let home = turn.saturating_add(i32::from(length));
+    // By match: `?` would need one result, and this has two.
     let first = match level.begin(out, platform, start, needed, turn) {
         Ok(first) => first,
         Err(refusal) => return (Err(refusal.into()), Err(refusal.into())),
