@@ -44,6 +44,10 @@ timetable_of l = l.timetable
 abbrev pub rule_of : {T R : Type 0} → Level T R → R
 rule_of l = l.rule
 
+-- the seat of a ticket
+abbrev pub seat_of : Ticket → ℕ
+seat_of x = x.seat
+
 -- what a level is opened with
 abbrev pub opening : {T R : Type 0} → Timetables T → SpareRules R → ℤ → T → R → Opening
 opening ts rs clock timetable rule = record {

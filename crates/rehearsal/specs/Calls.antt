@@ -5,7 +5,7 @@ use Rattle.level.specs.declared.ticked.Ticked.{Ticked}
 use Rattle.level.specs.declared.ticket.Ticket.{Ticket}
 use Rattle.level.specs.Numbers.{number_of}
 use Rattle.level.specs.Meaning.{Call, to_wake, to_block, to_begin, to_end, to_leave, to_collect, to_used, to_tick, Event, woke, blocked, began, ended, left, collected, told, ticked, refused}
-use Rattle.level.specs.Levels.{wake_event, block_event, begin_event, collect_event}
+use Rattle.level.specs.Levels.{seat_of, wake_event, block_event, begin_event, collect_event}
 use Rattle.command.specs.declared.command.Command.{Command}
 use Rattle.command.specs.declared.command.Command.TheVariants.{Open, Wake, Block, Tick, Begin, End}
 use Rattle.row.specs.declared.row.Row.{Row}
@@ -29,7 +29,7 @@ abbrev pub call_rows : Event → List Row
 call_rows (woke a) = []
 call_rows (blocked a) = []
 call_rows (began s a t e d x) = Began s ∷ []
-call_rows (ended x ran) = Ended x.seat ran ∷ []
+call_rows (ended x ran) = Ended (seat_of x) ran ∷ []
 call_rows (left x) = []
 call_rows (collected s x) = []
 call_rows (told a n) = []

@@ -7,7 +7,7 @@ use Rattle.level.specs.declared.level.Level.{Level}
 use Rattle.level.specs.declared.refusal.Refusal.{Refusal}
 use Rattle.level.specs.declared.ticked.Ticked.{Ticked}
 use Rattle.level.specs.Meaning.{Meaning, Event, woke, blocked, began, ended, left, collected, told, ticked, refused}
-use Rattle.level.specs.Levels.{meaning, Called, Asked, tick_event}
+use Rattle.level.specs.Levels.{meaning, rule_of, Called, Asked, tick_event}
 use Rattle.command.specs.declared.command.Command.{Command}
 use Rattle.row.specs.declared.row.Row.{Row}
 use Rattle.rehearsal.specs.Calls.{rows_of, call_rows, Makes}
@@ -18,7 +18,7 @@ pub record Stage (R : Type 0) : Type 0 where
   pub rule : R
 
 abbrev pub stage : {T R : Type 0} → Timetables T → SpareRules R → Level T R → Stage R
-stage ts rs l = record { level = meaning ts rs l; rule = l.rule }
+stage ts rs l = record { level = meaning ts rs l; rule = rule_of l }
 
 -- what a call does to the rule: at a spare tick it is asked once, told all that are ready, and at no other call
 abbrev pub AsksRule : {R : Type 0} → (R → (ℕ → Bool) → Option ℕ → R → Type 0) → (ℕ → Bool) → R → Event → R → Type 0
