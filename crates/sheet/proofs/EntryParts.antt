@@ -36,14 +36,14 @@ when_like true P Q f g w = f w
 when_like false P Q f g w = λ q. w (g q)
 
 -- the first entry block that is not as it should be, among the blocks of a sheet
-pub broken_among : (s : List ℕ) (entries n : ℕ) (bs : List (List ℕ)) → length bs ≡ n → ((k : ℕ) → k < n → get_or bs k [] ≡ block s k) → (r : Option ℕ) → MatchOption r ((k : ℕ) → 1 ≤ k → k < length bs → IsEntryBlock (get_or bs k []) k (in_block entries k)) (λ i. (1 ≤ i) × (i < length bs) × (IsEntryBlock (get_or bs i []) i (in_block entries i) → ⊥) × ((k : ℕ) → 1 ≤ k → k < i → IsEntryBlock (get_or bs k []) k (in_block entries k))) → MatchOption r (AllBlocks s entries n) (FirstBroken s entries n)
-broken_among s entries n bs long each None w = λ k low high. subst (λ b. IsEntryBlock b k (in_block entries k)) (each k high) (w k low (omega arith))
-broken_among s entries n bs long each (Some i) w =
+pub broken_among : (s : List ℕ) (entries : ℕ) (bs : List (List ℕ)) → ((k : ℕ) → k < length bs → get_or bs k [] ≡ block s k) → (r : Option ℕ) → MatchOption r ((k : ℕ) → 1 ≤ k → k < length bs → IsEntryBlock (get_or bs k []) k (in_block entries k)) (λ i. (1 ≤ i) × (i < length bs) × (IsEntryBlock (get_or bs i []) i (in_block entries i) → ⊥) × ((k : ℕ) → 1 ≤ k → k < i → IsEntryBlock (get_or bs k []) k (in_block entries k))) → MatchOption r (AllBlocks s entries (length bs)) (FirstBroken s entries (length bs))
+broken_among s entries bs each None w = λ k low high. subst (λ b. IsEntryBlock b k (in_block entries k)) (each k high) (w k low high)
+broken_among s entries bs each (Some i) w =
     record {
       least = w.0;
-      within = omega (arith, w.1);
+      within = w.1;
       before = λ k low high. subst (λ b. IsEntryBlock b k (in_block entries k)) (each k (omega (arith, w.1))) (w.3 k low high);
-      wrong = λ h. w.2 (subst (λ b. IsEntryBlock b i (in_block entries i)) (sym (each i (omega (arith, w.1)))) h);
+      wrong = λ h. w.2 (subst (λ b. IsEntryBlock b i (in_block entries i)) (sym (each i w.1)) h);
     }
 
 -- the same eight bytes elsewhere

@@ -1,5 +1,6 @@
 // The entry blocks of a sheet, and the entries in them.
 ghost use Rattle.std.specs.Prelude.{◌≡◌, ℕ, ◌+◌, ◌*◌, ◌<◌, ◌≤◌, length, MatchBool, MatchOption};
+ghost use Rattle.std.specs.List.{concat};
 ghost use Rattle.sheet.specs.Format.{EntryAt, IsEntryBlock, blocks_for, in_block};
 ghost use Rattle.sheet.specs.Read.{EntriesRead};
 ghost use Rattle.sheet.specs.Told.{AllBlocks, FirstBroken};
@@ -49,9 +50,9 @@ fn is_entry_block(block: &Block, number: usize, count: usize) -> bool
 
 // The number of the first entry block that is not as it should be.
 pub(crate) fn first_broken(blocks: &Blocks, entries: usize) -> Option<usize>
-    ensures { MatchOption result (AllBlocks blocks.now.bytes.now entries blocks.now.count) (FirstBroken blocks.now.bytes.now entries blocks.now.count) }
+    ensures { MatchOption result (AllBlocks (concat blocks.now.blocks.now) entries (length blocks.now.blocks.now)) (FirstBroken (concat blocks.now.blocks.now) entries (length blocks.now.blocks.now)) }
 {
-    let blocks = blocks.as_slice();
+    let blocks = blocks.blocks;
     (1..blocks.len()).find(|&number| !is_entry_block(
         &blocks[number],
         number,
@@ -85,10 +86,10 @@ fn entry_in(bytes: &[u8; ENTRY_SIZE]) -> Entry
 // The entries of a sheet that has so many. This is no one function with the reader of reservations: an entry is never
 // refused, and entries go on from block to block.
 pub(crate) fn read_entries(blocks: &Blocks, count: usize) -> ArrayVec<Entry, MOST_ENTRIES>
-    requires { blocks.now.count ≡ blocks_for count }
-    ensures { EntriesRead blocks.now.bytes.now count result.items }
+    requires { length blocks.now.blocks.now ≡ blocks_for count }
+    ensures { EntriesRead (concat blocks.now.blocks.now) count result.items }
 {
-    let blocks = blocks.as_slice();
+    let blocks = blocks.blocks;
     let mut entries = ArrayVec::new();
     for number in 1..blocks.len() {
         // The first chunk is the block's head.
