@@ -4,31 +4,10 @@ use Rattle.std.proofs.lemmas.List.{length-append, length-take, get_or-take, get_
 use Rattle.std.specs.Simd.{first_chunks}
 use Rattle.plan.specs.declared.entry.Entry.{Entry}
 use Rattle.plan.specs.Entries.{blank}
-use Rattle.sheet.specs.Format.{byte, two, block, Zero, EntryAt, IsEntryBlock, in_block, entry_place}
+use Rattle.sheet.specs.Format.{byte, two, block, EntryAt, IsEntryBlock, in_block, entry_place}
 use Rattle.sheet.specs.Read.{EntriesRead}
 use Rattle.sheet.specs.Told.{AllBlocks, FirstBroken}
-use Rattle.sheet.proofs.Bytes.{behind, behind_at, byte_of_chunk, byte_of_block, each_more}
-
--- the rest of an entry block is what stands from byte 3 on
-module _ (b : List ℕ) (number count : ℕ) where
-  pub zero_from : IsEntryBlock b number count → Zero (behind b 3) 0 5
-  zero_from w = λ i low high. behind_at b 3 i (3 + i) refl ∙ w.nought (3 + i) (omega arith) (omega arith)
-
-  pub tail_from : IsEntryBlock b number count → Zero (behind b 3) (5 + 8 * count) 505
-  tail_from w = λ i low high. behind_at b 3 i (3 + i) refl ∙ w.rest (3 + i) (omega arith) (omega arith)
-
-  pub block_made : byte b 0 ≡ 2 → byte b 1 ≡ number → byte b 2 ≡ count → Zero (behind b 3) 0 5 → Zero (behind b 3) (5 + 8 * count) 505 → IsEntryBlock b number count
-  block_made kind numbered counted zeros tail =
-      record {
-        kind = kind;
-        numbered = numbered;
-        counted = counted;
-        nought = λ i low high. back i (omega arith) ∙ zeros (i - 3) (omega arith) (omega arith);
-        rest = λ i low high. back i (omega arith) ∙ tail (i - 3) (omega arith) (omega arith);
-      }
-    where
-      back : (i : ℕ) → 3 ≤ i → byte b i ≡ byte (behind b 3) (i - 3)
-      back i h = sym (behind_at b 3 (i - 3) i (omega arith))
+use Rattle.sheet.proofs.Bytes.{byte_of_chunk, byte_of_block, each_more}
 
 -- a test of one fact is a test of another that holds with it
 pub when_like : (r : Bool) (P Q : Type 0) → (P → Q) → (Q → P) → MatchBool r P (P → ⊥) → MatchBool r Q (Q → ⊥)

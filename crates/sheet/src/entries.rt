@@ -34,7 +34,8 @@ fn is_entry_block(block: &Block, number: usize, count: usize) -> bool
     requires { count ≤ 60 }
     ensures { MatchBool result (IsEntryBlock block.now number count) (IsEntryBlock block.now number count → ⊥) }
 {
-    let [kind, its_number, its_count, rest @ ..] = &block[..] else {
+    // A slice pattern with the first bytes named: the project's form for a block.
+    let [kind, its_number, its_count, ..] = &block[..] else {
         return false;
     };
     if *kind != ENTRY_BLOCK
@@ -43,9 +44,7 @@ fn is_entry_block(block: &Block, number: usize, count: usize) -> bool
     {
         return false;
     }
-    // The rest begins at byte 3.
-    are_zero(&rest[..HEAD_SIZE - 3])
-        && are_zero(&rest[HEAD_SIZE - 3 + ENTRY_SIZE * count..CHECKED_SIZE - 3])
+    are_zero(&block[3..HEAD_SIZE]) && are_zero(&block[HEAD_SIZE + ENTRY_SIZE * count..CHECKED_SIZE])
 }
 
 // The number of the first entry block that is not as it should be.
@@ -91,6 +90,7 @@ pub(crate) fn read_entries(blocks: &Blocks, count: usize) -> ArrayVec<Entry, MOS
 {
     let blocks = blocks.blocks;
     let mut entries = ArrayVec::new();
+    // Loops, since `collect` takes an allocator, which `load` may not ask for.
     for number in 1..blocks.len() {
         // The first chunk is the block's head.
         let (chunks, _) = blocks[number].as_chunks::<ENTRY_SIZE>();

@@ -63,6 +63,7 @@ fn read_reservations(bytes: &[u8], count: usize) -> Option<ArrayVec<Reservation,
 {
     let (chunks, _) = bytes.as_chunks::<RESERVATION_SIZE>();
     let mut list = ArrayVec::new();
+    // A loop, since `collect` takes an allocator, which `load` may not ask for.
     for chunk in &chunks[..count] {
         list.push(reservation_in(chunk)?);
     }
@@ -73,6 +74,7 @@ fn read_reservations(bytes: &[u8], count: usize) -> Option<ArrayVec<Reservation,
 pub(crate) fn read_heading(blocks: &Blocks) -> Option<HeadingFields>
     ensures { MatchOption result (Headed (block (concat blocks.now.blocks.now) 0) (length blocks.now.blocks.now) → ⊥) (HeadingRead (block (concat blocks.now.blocks.now) 0) (length blocks.now.blocks.now)) }
 {
+    // A slice pattern with the first bytes named: the project's form for a block.
     let [
         kind,
         number,
