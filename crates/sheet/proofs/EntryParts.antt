@@ -1,6 +1,8 @@
 -- The steps of reading entries and entry blocks, and why a block that is refused is none.
 use Rattle.std.proofs.Common.{◌≡◌, ℕ, ◌+◌, ◌-◌, ◌*◌, ◌/◌, ◌<◌, ◌≤◌, Bool, true, false, List, [], ◌∷◌, ◌++◌, length, get_or, take, drop, Option, None, Some, MatchBool, MatchOption, sym, refl, ap, ◌∙◌, subst, arith}
-use Rattle.std.proofs.lemmas.List.{length-append, length-take, get_or-take, get_or-drop}
+use Rattle.std.proofs.lemmas.List.{length-append, length-take, length-drop, get_or-take, get_or-drop, get_or_default}
+use Rattle.std.proofs.lemmas.List.FromFn.{length-enumerate_from, get_or-enumerate_from}
+use Rattle.std.specs.List.{enumerate_from}
 use Rattle.std.specs.Simd.{first_chunks}
 use Rattle.plan.specs.declared.entry.Entry.{Entry}
 use Rattle.plan.specs.Entries.{blank}
@@ -24,6 +26,19 @@ broken_among s entries bs each (Some i) w =
       before = λ k low high. subst (λ b. IsEntryBlock b k (in_block entries k)) (each k (omega (arith, w.1))) (w.3 k low high);
       wrong = λ h. w.2 (subst (λ b. IsEntryBlock b i (in_block entries i)) (sym (each i w.1)) h);
     }
+
+-- what the blocks behind the first give one after the other, each with its number
+abbrev pub later : List (List ℕ) → List (ℕ × List ℕ)
+later bs = drop 1 (enumerate_from 0 bs)
+
+pub later_block : (bs : List (List ℕ)) (m : ℕ) (p : ℕ × List ℕ) → (m < length (later bs)) × (p ≡ get_or (later bs) m p) → (1 + m < length bs) × (p.0 ≡ 1 + m) × (p.1 ≡ get_or bs (1 + m) [])
+later_block bs m p (l, e) =
+    let long = length-drop 1 (enumerate_from 0 bs) in
+    let all = length-enumerate_from 0 bs in
+    let within : 1 + m < length bs = omega arith in
+    let same : p ≡ (0 + (1 + m), get_or bs (1 + m) p.1) = e ∙ get_or-drop 1 (enumerate_from 0 bs) m p ∙ get_or-enumerate_from 0 bs (1 + m) p within in
+    let number : p.0 ≡ 0 + (1 + m) = ap (λ q. q.0) same in
+    (within, omega arith, ap (λ q. q.1) same ∙ get_or_default bs (1 + m) p.1 [] within)
 
 -- the same eight bytes elsewhere
 moved : (t s : List ℕ) (q : ℕ) (e : Entry) → ((i j : ℕ) → i < 8 → j ≡ q + i → byte t i ≡ byte s j) → EntryAt t 0 e → EntryAt s q e

@@ -88,12 +88,11 @@ pub(crate) fn read_entries(blocks: &Blocks, count: usize) -> ArrayVec<Entry, MOS
     requires { length blocks.now.blocks.now ≡ blocks_for count }
     ensures { EntriesRead (concat blocks.now.blocks.now) count result.items }
 {
-    let blocks = blocks.blocks;
     let mut entries = ArrayVec::new();
     // Loops, since `collect` takes an allocator, which `load` may not ask for.
-    for number in 1..blocks.len() {
+    for (number, block) in blocks.blocks.iter().enumerate().skip(1) {
         // The first chunk is the block's head.
-        let (chunks, _) = blocks[number].as_chunks::<ENTRY_SIZE>();
+        let (chunks, _) = block.as_chunks::<ENTRY_SIZE>();
         for chunk in &chunks[1..1 + entries_in(count, number)] {
             entries.push(entry_in(chunk));
         }
