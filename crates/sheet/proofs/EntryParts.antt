@@ -1,6 +1,7 @@
 -- The steps of reading entries and entry blocks, and why a block that is refused is none.
-use Rattle.std.proofs.Common.{◌≡◌, ℕ, ◌+◌, ◌-◌, ◌*◌, ◌/◌, ◌<◌, ◌≤◌, Bool, true, false, List, [], ◌∷◌, ◌++◌, length, get_or, take, drop, Option, None, Some, MatchBool, MatchOption, sym, refl, ap, ◌∙◌, subst, arith}
+use Rattle.std.proofs.Common.{◌≡◌, ℕ, ◌+◌, ◌-◌, ◌*◌, ◌/◌, ◌<◌, ◌≤◌, Bool, true, false, List, [], ◌∷◌, ◌++◌, length, get_or, take, drop, Option, None, Some, MatchBool, MatchOption, sym, refl, ap, ◌∙◌, subst, ⊎_elim, arith}
 use Rattle.std.proofs.lemmas.List.{length-append, length-take, length-drop, get_or-take, get_or-drop, get_or_default}
+use Rattle.std.proofs.lemmas.Bool.{cases_order}
 use Rattle.std.proofs.lemmas.List.FromFn.{length-enumerate_from, get_or-enumerate_from}
 use Rattle.std.specs.List.{enumerate_from}
 use Rattle.std.specs.Simd.{first_chunks}
@@ -39,6 +40,11 @@ later_block bs m p (l, e) =
     let same : p ≡ (0 + (1 + m), get_or bs (1 + m) p.1) = e ∙ get_or-drop 1 (enumerate_from 0 bs) m p ∙ get_or-enumerate_from 0 bs (1 + m) p within in
     let number : p.0 ≡ 0 + (1 + m) = ap (λ q. q.0) same in
     (within, omega arith, ap (λ q. q.1) same ∙ get_or_default bs (1 + m) p.1 [] within)
+
+-- one more block that is as it should be
+pub all_more : (s : List ℕ) (entries n : ℕ) → AllBlocks s entries n → IsEntryBlock (block s n) n (in_block entries n) → AllBlocks s entries (n + 1)
+all_more s entries n all last = λ k low high.
+    ⊎_elim (λ e. subst (λ j. IsEntryBlock (block s j) j (in_block entries j)) (sym e) last) (λ o. ⊎_elim (λ b. all k low b) (λ a. absurd (omega arith)) o) (cases_order k n)
 
 -- the same eight bytes elsewhere
 moved : (t s : List ℕ) (q : ℕ) (e : Entry) → ((i j : ℕ) → i < 8 → j ≡ q + i → byte t i ≡ byte s j) → EntryAt t 0 e → EntryAt s q e

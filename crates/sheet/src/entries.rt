@@ -51,12 +51,12 @@ fn is_entry_block(block: &Block, number: usize, count: usize) -> bool
 pub(crate) fn first_broken(blocks: &Blocks, entries: usize) -> Option<usize>
     ensures { MatchOption result (AllBlocks (concat blocks.now.blocks.now) entries (length blocks.now.blocks.now)) (FirstBroken (concat blocks.now.blocks.now) entries (length blocks.now.blocks.now)) }
 {
-    let blocks = blocks.blocks;
-    (1..blocks.len()).find(|&number| !is_entry_block(
-        &blocks[number],
-        number,
-        entries_in(entries, number),
-    ))
+    for (number, block) in blocks.blocks.iter().enumerate().skip(1) {
+        if !is_entry_block(block, number, entries_in(entries, number)) {
+            return Some(number);
+        }
+    }
+    None
 }
 
 // The entry in these bytes.
