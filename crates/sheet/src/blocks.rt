@@ -39,6 +39,8 @@ fn weighted_sum(bytes: &[u8]) -> u32
     requires { length bytes.now ≡ 508 }
     ensures { result ≡ weighted_sum bytes.now 508 }
 {
+    // A chain `zip(1u32..).map(..).sum()` was tried: its proof lacks that each place the zip gives is at most 508, by which the
+    // product and the sum fit.
     let mut sum = 0;
     for (i, byte) in bytes.iter().enumerate() {
         sum += (i as u32 + 1) * u32::from(*byte);
