@@ -51,8 +51,8 @@ fn is_entry_block(block: &Block, number: usize, count: usize) -> bool
 pub(crate) fn first_broken(blocks: &Blocks, entries: usize) -> Option<usize>
     ensures { MatchOption result (AllBlocks (concat blocks.now.blocks.now) entries (length blocks.now.blocks.now)) (FirstBroken (concat blocks.now.blocks.now) entries (length blocks.now.blocks.now)) }
 {
-    for (number, block) in blocks.blocks.iter().enumerate().skip(1) {
-        if !is_entry_block(block, number, entries_in(entries, number)) {
+    for (number, entry_block) in blocks.blocks.iter().enumerate().skip(1) {
+        if !is_entry_block(entry_block, number, entries_in(entries, number)) {
             return Some(number);
         }
     }

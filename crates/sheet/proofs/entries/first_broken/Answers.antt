@@ -14,7 +14,7 @@ returns-then-not-is_entry_block c =
     let s = concat bs in
     let number = c.in-Some.number in
     let road = YieldsList-from_skip {s = c.into_iter-number-iterator.result} 1 (YieldsList-from_enumerate (YieldsList-from_slice bs (cc)) (cc)) (cc) in
-    let turn = later_block bs c.args.blocks.now.whole (length c.loop-number.yielded) (number, c.in-Some.block.now) (YieldsList-turn road c.loop-number.yielded _ c.loop-number.yielded_by _ _ (number, c.in-Some.block) c.in-Some.is c.next.ensures.steps) in
+    let turn = later_block bs c.args.blocks.now.whole (length c.loop-number.yielded) (number, c.in-Some.entry_block.now) (YieldsList-turn road c.loop-number.yielded _ c.loop-number.yielded_by _ _ (number, c.in-Some.entry_block) c.in-Some.is c.next.ensures.steps) in
     record {
       least = omega (arith, turn.1);
       within = omega (arith, turn.0, turn.1);
@@ -29,8 +29,8 @@ loop-number-preserved c =
     let m = length c.loop-number.yielded in
     let number = c.in-Some.number in
     let road = YieldsList-from_skip {s = c.into_iter-number-iterator.result} 1 (YieldsList-from_enumerate (YieldsList-from_slice bs (cc)) (cc)) (cc) in
-    let turn = later_block bs c.args.blocks.now.whole m (number, c.in-Some.block.now) (YieldsList-turn road c.loop-number.yielded _ c.loop-number.yielded_by _ _ (number, c.in-Some.block) c.in-Some.is c.next.ensures.steps) in
-    let here = subst (λ b. IsEntryBlock b number (in_block c.args.entries number)) turn.2 (subst (IsEntryBlock c.in-Some.block.now number) c.entries_in.ensures c.if-not-is_entry_block.ensures) in
+    let turn = later_block bs c.args.blocks.now.whole m (number, c.in-Some.entry_block.now) (YieldsList-turn road c.loop-number.yielded _ c.loop-number.yielded_by _ _ (number, c.in-Some.entry_block) c.in-Some.is c.next.ensures.steps) in
+    let here = subst (λ b. IsEntryBlock b number (in_block c.args.entries number)) turn.2 (subst (IsEntryBlock c.in-Some.entry_block.now number) c.entries_in.ensures c.if-not-is_entry_block.ensures) in
     let last = subst (λ n. IsEntryBlock (block s n) n (in_block c.args.entries n)) turn.1 here in
-    let long = length_push c.loop-number.yielded (number, c.in-Some.block) in
+    let long = length_push c.loop-number.yielded (number, c.in-Some.entry_block) in
     λ k low high. all_more s c.args.entries (1 + m) c.loop-number.invariant last k low (omega (arith, long))
