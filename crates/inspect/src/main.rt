@@ -3,7 +3,7 @@
 // of bars holds in `bars`.
 #![tactic(auto)]
 
-use anyhow::anyhow;
+use anyhow::Context;
 use bars::{line, owns_any};
 use plan::plan::Plan;
 use reservation::reservation::Reservation;
@@ -47,9 +47,7 @@ fn print_reservations(rt: &HostRuntime, list: &[Reservation]) -> anyhow::Result<
 }
 
 fn print_refusal(rt: &HostRuntime, fault: &SheetFault) -> anyhow::Result<()> {
-    let number = fault
-        .number()
-        .ok_or_else(|| anyhow!("no memory for the plan"))?;
+    let number = fault.number().context("no memory for the plan")?;
     let layer = fault.layer();
     let place = fault.place();
     println!(rt; "{layer} {number} {place}")?;

@@ -1,12 +1,12 @@
 -- Parts of a sheet, and the sum over a block.
 use Rattle.std.proofs.Common.{◌≡◌, ℕ, zero, suc, ◌+◌, ◌-◌, ◌*◌, ◌<◌, ◌≤◌, List, [], ◌∷◌, ◌++◌, length, get_or, take, drop, Option, None, Some, MatchOption, Decides, nat_eq, sym, refl, ap, ◌∙◌, subst, ⊎_elim, add-one, arith}
 use Rattle.std.proofs.lemmas.Bool.Decides.{Decides-eqb}
-use Rattle.std.proofs.lemmas.List.{length-take, length-drop, get_or-take, get_or-drop, take_rest}
+use Rattle.std.proofs.lemmas.List.{length-take, length-drop, get_or-take, get_or-drop, take_rest, take-append-drop, nil_from_length}
 use Rattle.std.proofs.lemmas.Bool.{cases_order}
 use Rattle.std.proofs.Math.ListN.{get_or-append}
-use Rattle.std.proofs.Math.Seq.{drop-drop, get_or-append_seam}
+use Rattle.std.proofs.Math.Seq.{drop-drop, get_or-append_seam, take-append_seam, drop-append-add}
 use Rattle.std.specs.Int.{from_le_bytes, w32}
-use Rattle.std.specs.List.{AllWithin, HoldsAt}
+use Rattle.std.specs.List.{AllWithin, HoldsAt, concat}
 use Rattle.std.specs.Simd.{first_chunks}
 use Rattle.sheet.specs.Format.{Checked, Zero, byte, four, block, weighted_sum}
 use Rattle.sheet.specs.Told.{AllChecked, FirstUnchecked}
@@ -64,13 +64,13 @@ pub byte_of_block : (s : List ℕ) (n i j : ℕ) → i < 512 → j ≡ 512 * n +
 byte_of_block s n i j l e = get_or-take 512 (drop (512 * n) s) i 0 l ∙ get_or-drop (512 * n) s i 0 ∙ ap (λ p. byte s p) (sym e)
 
 -- the first block whose check is wrong, among the blocks of a sheet
-pub unchecked_among : (s : List ℕ) (n : ℕ) (bs : List (List ℕ)) → length bs ≡ n → ((k : ℕ) → k < n → get_or bs k [] ≡ block s k) → (r : Option ℕ) → MatchOption r (AllWithin Checked bs 0 (length bs)) (λ i. (i < length bs) × HoldsAt (λ b. Checked b → ⊥) bs i × AllWithin Checked bs 0 i) → MatchOption r (AllChecked s n) (FirstUnchecked s n)
-unchecked_among s n bs long each None w = λ k l. subst Checked (each k l) (w k [] (omega arith) (omega arith))
-unchecked_among s n bs long each (Some i) w =
+pub unchecked_among : (s : List ℕ) (bs : List (List ℕ)) → ((k : ℕ) → k < length bs → get_or bs k [] ≡ block s k) → (r : Option ℕ) → MatchOption r (AllWithin Checked bs 0 (length bs)) (λ i. (i < length bs) × HoldsAt (λ b. Checked b → ⊥) bs i × AllWithin Checked bs 0 i) → MatchOption r (AllChecked s (length bs)) (FirstUnchecked s (length bs))
+unchecked_among s bs each None w = λ k l. subst Checked (each k l) (w k [] (omega arith) (omega arith))
+unchecked_among s bs each (Some i) w =
     record {
-      within = omega (arith, w.0);
+      within = w.0;
       before = λ k l. subst Checked (each k (omega (arith, w.0))) (w.2 k [] (omega arith) l);
-      wrong = λ h. w.1 [] (subst Checked (sym (each i (omega (arith, w.0)))) h);
+      wrong = λ h. w.1 [] (subst Checked (sym (each i w.0)) h);
     }
 
 pub length_block : (s : List ℕ) (n : ℕ) → 512 * n + 512 ≤ length s → length (block s n) ≡ 512
@@ -117,3 +117,20 @@ module _ {X : Type 0} (P : ℕ → X → Type 0) (k : ℕ) (xs : List X) (x d : 
       ⊎_elim (λ e. here j e last)
       (λ o. ⊎_elim (λ b. subst (P j) (sym (get_or-append xs (x ∷ []) d j (omega arith))) (each j b)) (λ a. absurd (past j l a)) o)
       (cases_order j k)
+
+-- whole chunks joined are the list
+pub concat-first_chunks : (n m : ℕ) (xs : List ℕ) → length xs ≡ n * m → concat (first_chunks n m xs) ≡ xs
+concat-first_chunks n zero xs h = sym (nil_from_length xs (h ∙ grind arith))
+concat-first_chunks n (suc m) xs h =
+    let rest = concat-first_chunks n m (drop n xs) (length-drop n xs ∙ ap (λ l. l - n) h ∙ grind arith) in
+    ap (λ ys. take n xs ++ ys) rest ∙ take-append-drop n xs
+
+-- each of the blocks that are joined
+pub block_of : (bs : List (List ℕ)) → ((k : ℕ) → k < length bs → length (get_or bs k []) ≡ 512) → (k : ℕ) → k < length bs → get_or bs k [] ≡ block (concat bs) k
+block_of [] long k l = absurd (omega arith)
+block_of (b ∷ bs) long zero l =
+    sym (ap (λ n. take n (b ++ concat bs)) (sym (long 0 (omega arith))) ∙ take-append_seam b (concat bs))
+block_of (b ∷ bs) long (suc k) l =
+    let here : 512 * suc k ≡ length b + 512 * k = let e = long 0 (omega arith) in omega arith in
+    block_of bs (λ j m. long (suc j) (omega arith)) k (omega arith)
+    ∙ sym (ap (take 512) (ap (λ j. drop j (b ++ concat bs)) here ∙ drop-append-add b (concat bs) (512 * k)))

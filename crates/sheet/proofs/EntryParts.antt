@@ -1,50 +1,39 @@
 -- The steps of reading entries and entry blocks, and why a block that is refused is none.
-use Rattle.std.proofs.Common.{◌≡◌, ℕ, ◌+◌, ◌-◌, ◌*◌, ◌/◌, ◌<◌, ◌≤◌, Bool, true, false, List, [], ◌∷◌, ◌++◌, length, get_or, take, drop, Option, None, Some, MatchBool, MatchOption, sym, refl, ap, ◌∙◌, subst, arith}
-use Rattle.std.proofs.lemmas.List.{length-append, length-take, get_or-take, get_or-drop}
+use Rattle.std.proofs.Common.{◌≡◌, ℕ, ◌+◌, ◌-◌, ◌*◌, ◌/◌, ◌<◌, ◌≤◌, Bool, true, false, List, [], ◌∷◌, ◌++◌, length, get_or, take, drop, MatchBool, sym, refl, ap, ◌∙◌, subst, ⊎_elim, arith}
+use Rattle.std.proofs.lemmas.List.{length-append, length-take, length-drop, get_or-take, get_or-drop, get_or_default}
+use Rattle.std.proofs.lemmas.Bool.{cases_order}
+use Rattle.std.proofs.lemmas.List.FromFn.{length-enumerate_from, get_or-enumerate_from}
+use Rattle.std.specs.List.{concat, enumerate_from}
 use Rattle.std.specs.Simd.{first_chunks}
 use Rattle.plan.specs.declared.entry.Entry.{Entry}
 use Rattle.plan.specs.Entries.{blank}
-use Rattle.sheet.specs.Format.{byte, two, block, Zero, EntryAt, IsEntryBlock, in_block, entry_place}
+use Rattle.sheet.specs.Format.{byte, two, block, EntryAt, IsEntryBlock, in_block, entry_place}
 use Rattle.sheet.specs.Read.{EntriesRead}
-use Rattle.sheet.specs.Told.{AllBlocks, FirstBroken}
-use Rattle.sheet.proofs.Bytes.{behind, behind_at, byte_of_chunk, byte_of_block, each_more}
-
--- the rest of an entry block is what stands from byte 3 on
-module _ (b : List ℕ) (number count : ℕ) where
-  pub zero_from : IsEntryBlock b number count → Zero (behind b 3) 0 5
-  zero_from w = λ i low high. behind_at b 3 i (3 + i) refl ∙ w.nought (3 + i) (omega arith) (omega arith)
-
-  pub tail_from : IsEntryBlock b number count → Zero (behind b 3) (5 + 8 * count) 505
-  tail_from w = λ i low high. behind_at b 3 i (3 + i) refl ∙ w.rest (3 + i) (omega arith) (omega arith)
-
-  pub block_made : byte b 0 ≡ 2 → byte b 1 ≡ number → byte b 2 ≡ count → Zero (behind b 3) 0 5 → Zero (behind b 3) (5 + 8 * count) 505 → IsEntryBlock b number count
-  block_made kind numbered counted zeros tail =
-      record {
-        kind = kind;
-        numbered = numbered;
-        counted = counted;
-        nought = λ i low high. back i (omega arith) ∙ zeros (i - 3) (omega arith) (omega arith);
-        rest = λ i low high. back i (omega arith) ∙ tail (i - 3) (omega arith) (omega arith);
-      }
-    where
-      back : (i : ℕ) → 3 ≤ i → byte b i ≡ byte (behind b 3) (i - 3)
-      back i h = sym (behind_at b 3 (i - 3) i (omega arith))
+use Rattle.sheet.specs.Told.{AllBlocks}
+use Rattle.sheet.proofs.Bytes.{block_of, byte_of_chunk, byte_of_block, each_more}
 
 -- a test of one fact is a test of another that holds with it
 pub when_like : (r : Bool) (P Q : Type 0) → (P → Q) → (Q → P) → MatchBool r P (P → ⊥) → MatchBool r Q (Q → ⊥)
 when_like true P Q f g w = f w
 when_like false P Q f g w = λ q. w (g q)
 
--- the first entry block that is not as it should be, among the blocks of a sheet
-pub broken_among : (s : List ℕ) (entries n : ℕ) (bs : List (List ℕ)) → length bs ≡ n → ((k : ℕ) → k < n → get_or bs k [] ≡ block s k) → (r : Option ℕ) → MatchOption r ((k : ℕ) → 1 ≤ k → k < length bs → IsEntryBlock (get_or bs k []) k (in_block entries k)) (λ i. (1 ≤ i) × (i < length bs) × (IsEntryBlock (get_or bs i []) i (in_block entries i) → ⊥) × ((k : ℕ) → 1 ≤ k → k < i → IsEntryBlock (get_or bs k []) k (in_block entries k))) → MatchOption r (AllBlocks s entries n) (FirstBroken s entries n)
-broken_among s entries n bs long each None w = λ k low high. subst (λ b. IsEntryBlock b k (in_block entries k)) (each k high) (w k low (omega arith))
-broken_among s entries n bs long each (Some i) w =
-    record {
-      least = w.0;
-      within = omega (arith, w.1);
-      before = λ k low high. subst (λ b. IsEntryBlock b k (in_block entries k)) (each k (omega (arith, w.1))) (w.3 k low high);
-      wrong = λ h. w.2 (subst (λ b. IsEntryBlock b i (in_block entries i)) (sym (each i (omega (arith, w.1)))) h);
-    }
+-- what the blocks behind the first give one after the other, each with its number
+abbrev pub later : List (List ℕ) → List (ℕ × List ℕ)
+later bs = drop 1 (enumerate_from 0 bs)
+
+pub later_block : (bs : List (List ℕ)) → ((k : ℕ) → k < length bs → length (get_or bs k []) ≡ 512) → (m : ℕ) (p : ℕ × List ℕ) → (m < length (later bs)) × (p ≡ get_or (later bs) m p) → (1 + m < length bs) × (p.0 ≡ 1 + m) × (p.1 ≡ block (concat bs) p.0)
+later_block bs whole m p (l, e) =
+    let long = length-drop 1 (enumerate_from 0 bs) in
+    let all = length-enumerate_from 0 bs in
+    let within : 1 + m < length bs = omega arith in
+    let same : p ≡ (0 + (1 + m), get_or bs (1 + m) p.1) = e ∙ get_or-drop 1 (enumerate_from 0 bs) m p ∙ get_or-enumerate_from 0 bs (1 + m) p within in
+    let number : p.0 ≡ 0 + (1 + m) = ap (λ q. q.0) same in
+    (within, omega arith, ap (λ q. q.1) same ∙ get_or_default bs (1 + m) p.1 [] within ∙ block_of bs whole (1 + m) within ∙ ap (block (concat bs)) (omega arith))
+
+-- one more block that is as it should be
+pub all_more : (s : List ℕ) (entries n : ℕ) → AllBlocks s entries n → IsEntryBlock (block s n) n (in_block entries n) → AllBlocks s entries (n + 1)
+all_more s entries n all last = λ k low high.
+    ⊎_elim (λ e. subst (λ j. IsEntryBlock (block s j) j (in_block entries j)) (sym e) last) (λ o. ⊎_elim (λ b. all k low b) (λ a. absurd (omega arith)) o) (cases_order k n)
 
 -- the same eight bytes elsewhere
 moved : (t s : List ℕ) (q : ℕ) (e : Entry) → ((i j : ℕ) → i < 8 → j ≡ q + i → byte t i ≡ byte s j) → EntryAt t 0 e → EntryAt s q e

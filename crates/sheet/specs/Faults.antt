@@ -1,5 +1,5 @@
 -- What a fault of a sheet tells: its layer, its number and its place.
-use Rattle.std.specs.Prelude.{ℕ, Some, Option}
+use Rattle.std.specs.Prelude.{ℕ, min, Some, Option}
 use Rattle.plan.specs.declared.fault.PlanFault.{PlanFault}
 use Rattle.plan.specs.declared.fault.PlanFault.TheVariants as of-plan
 use Rattle.plan.specs.Numbers as plan
@@ -27,6 +27,10 @@ number_of Heading = Some 33
 number_of (EntryBlock n) = Some 34
 number_of (Plan f) = plan.number_of f
 number_of (Check f) = Some (check.number_of f)
+
+-- a place as a `usize` holds it: its greatest stands in for what is greater
+abbrev pub in_usize : ℕ → ℕ
+in_usize n = min n 18446744073709551615
 
 -- the byte where the entry begins that the plan's fault tells of, for a clash the later one
 abbrev pub plan_place : PlanFault → ℕ

@@ -1,5 +1,6 @@
 // The blocks of a sheet: how many there are, and whether their checks are right.
 ghost use Rattle.std.specs.Prelude.{◌≡◌, ℕ, ◌+◌, ◌*◌, ◌<◌, ◌≤◌, length, Decides, MatchBool, MatchOption, slice_index_or, []};
+ghost use Rattle.std.specs.List.{concat};
 ghost use Rattle.sheet.specs.Format.{Checked, Zero, block, weighted_sum};
 ghost use Rattle.sheet.specs.Told.{HasBlocks, AllChecked, FirstUnchecked};
 
@@ -18,12 +19,12 @@ const MOST_BLOCKS: usize = 3;
 // The bytes of one block.
 pub(crate) type Block = [u8; BLOCK_SIZE];
 
-// The bytes of one, two or three whole blocks.
+// One, two or three whole blocks.
 #[derive(Clone, Copy)]
 pub(crate) struct Blocks<'a> {
-    bytes: &'a [u8],
-    count: usize,
-    ghost sized: { HasBlocks bytes.now count },
+    pub(crate) blocks: &'a [Block],
+    ghost sized: { HasBlocks (concat blocks.now) (length blocks.now) },
+    ghost whole: { (k : ℕ) → k < length blocks.now → length (slice_index_or blocks.now k []) ≡ 512 },
 }
 
 // Whether all bytes are 0.
@@ -38,6 +39,8 @@ fn weighted_sum(bytes: &[u8]) -> u32
     requires { length bytes.now ≡ 508 }
     ensures { result ≡ weighted_sum bytes.now 508 }
 {
+    // A chain `zip(1u32..).map(..).sum()` was tried: its proof lacks that each place the zip gives is at most 508, by which the
+    // product and the sum fit.
     let mut sum = 0;
     for (i, byte) in bytes.iter().enumerate() {
         sum += (i as u32 + 1) * u32::from(*byte);
@@ -56,43 +59,26 @@ fn is_checked(block: &Block) -> bool
 impl<'a> Blocks<'a> {
     // The blocks of a sheet of these bytes.
     pub(crate) fn new(bytes: &'a [u8]) -> Option<Blocks<'a>>
-        ensures { MatchOption result ((n : ℕ) → HasBlocks bytes.now n → ⊥) (λ b. b.bytes.now ≡ bytes.now) }
+        ensures { MatchOption result ((n : ℕ) → HasBlocks bytes.now n → ⊥) (λ b. concat b.blocks.now ≡ bytes.now) }
     {
-        let count = bytes.len() / BLOCK_SIZE;
-        if bytes.len() % BLOCK_SIZE != 0 || count == 0 || count > MOST_BLOCKS {
+        let (blocks, rest) = bytes.as_chunks::<BLOCK_SIZE>();
+        if !rest.is_empty() || blocks.is_empty() || blocks.len() > MOST_BLOCKS {
             return None;
         }
-        Some(Blocks { bytes, count })
+        Some(Blocks { blocks })
     }
 
-    // How many there are.
-    pub(crate) fn count(&self) -> usize
-        ensures { result ≡ self.now.count }
+    // The first of them.
+    pub(crate) fn first(&self) -> &'a Block
+        ensures { result.now ≡ block (concat self.now.blocks.now) 0 }
     {
-        self.count
-    }
-
-    // The blocks one by one.
-    pub(crate) fn as_slice(&self) -> &'a [Block]
-        ensures count { length result.now ≡ self.now.count }
-        ensures each { (k : ℕ) → k < self.now.count → slice_index_or result.now k [] ≡ block self.now.bytes.now k }
-    {
-        let (blocks, _) = self.bytes.as_chunks::<BLOCK_SIZE>();
-        blocks
-    }
-
-    // The bytes of the first.
-    pub(crate) fn first(&self) -> &'a [u8]
-        ensures value { result.now ≡ block self.now.bytes.now 0 }
-        ensures size { length result.now ≡ 512 }
-    {
-        &self.as_slice()[0]
+        &self.blocks[0]
     }
 
     // The number of the first block whose check is wrong.
     pub(crate) fn first_unchecked(&self) -> Option<usize>
-        ensures { MatchOption result (AllChecked self.now.bytes.now self.now.count) (FirstUnchecked self.now.bytes.now self.now.count) }
+        ensures { MatchOption result (AllChecked (concat self.now.blocks.now) (length self.now.blocks.now)) (FirstUnchecked (concat self.now.blocks.now) (length self.now.blocks.now)) }
     {
-        self.as_slice().iter().position(|block| !is_checked(block))
+        self.blocks.iter().position(|block| !is_checked(block))
     }
 }

@@ -1,5 +1,6 @@
 // The entry blocks of a sheet, and the entries in them.
 ghost use Rattle.std.specs.Prelude.{◌≡◌, ℕ, ◌+◌, ◌*◌, ◌<◌, ◌≤◌, length, MatchBool, MatchOption};
+ghost use Rattle.std.specs.List.{concat};
 ghost use Rattle.sheet.specs.Format.{EntryAt, IsEntryBlock, blocks_for, in_block};
 ghost use Rattle.sheet.specs.Read.{EntriesRead};
 ghost use Rattle.sheet.specs.Told.{AllBlocks, FirstBroken};
@@ -33,7 +34,8 @@ fn is_entry_block(block: &Block, number: usize, count: usize) -> bool
     requires { count ≤ 60 }
     ensures { MatchBool result (IsEntryBlock block.now number count) (IsEntryBlock block.now number count → ⊥) }
 {
-    let [kind, its_number, its_count, rest @ ..] = &block[..] else {
+    // A slice pattern with the first bytes named: the project's form for a block.
+    let [kind, its_number, its_count, ..] = &block[..] else {
         return false;
     };
     if *kind != ENTRY_BLOCK
@@ -42,21 +44,19 @@ fn is_entry_block(block: &Block, number: usize, count: usize) -> bool
     {
         return false;
     }
-    // The rest begins at byte 3.
-    are_zero(&rest[..HEAD_SIZE - 3])
-        && are_zero(&rest[HEAD_SIZE - 3 + ENTRY_SIZE * count..CHECKED_SIZE - 3])
+    are_zero(&block[3..HEAD_SIZE]) && are_zero(&block[HEAD_SIZE + ENTRY_SIZE * count..CHECKED_SIZE])
 }
 
 // The number of the first entry block that is not as it should be.
 pub(crate) fn first_broken(blocks: &Blocks, entries: usize) -> Option<usize>
-    ensures { MatchOption result (AllBlocks blocks.now.bytes.now entries blocks.now.count) (FirstBroken blocks.now.bytes.now entries blocks.now.count) }
+    ensures { MatchOption result (AllBlocks (concat blocks.now.blocks.now) entries (length blocks.now.blocks.now)) (FirstBroken (concat blocks.now.blocks.now) entries (length blocks.now.blocks.now)) }
 {
-    let blocks = blocks.as_slice();
-    (1..blocks.len()).find(|&number| !is_entry_block(
-        &blocks[number],
-        number,
-        entries_in(entries, number),
-    ))
+    for (number, entry_block) in blocks.blocks.iter().enumerate().skip(1) {
+        if !is_entry_block(entry_block, number, entries_in(entries, number)) {
+            return Some(number);
+        }
+    }
+    None
 }
 
 // The entry in these bytes.
@@ -85,14 +85,14 @@ fn entry_in(bytes: &[u8; ENTRY_SIZE]) -> Entry
 // The entries of a sheet that has so many. This is no one function with the reader of reservations: an entry is never
 // refused, and entries go on from block to block.
 pub(crate) fn read_entries(blocks: &Blocks, count: usize) -> ArrayVec<Entry, MOST_ENTRIES>
-    requires { blocks.now.count ≡ blocks_for count }
-    ensures { EntriesRead blocks.now.bytes.now count result.items }
+    requires { length blocks.now.blocks.now ≡ blocks_for count }
+    ensures { EntriesRead (concat blocks.now.blocks.now) count result.items }
 {
-    let blocks = blocks.as_slice();
     let mut entries = ArrayVec::new();
-    for number in 1..blocks.len() {
+    // Loops, since `collect` takes an allocator, which `load` may not ask for.
+    for (number, block) in blocks.blocks.iter().enumerate().skip(1) {
         // The first chunk is the block's head.
-        let (chunks, _) = blocks[number].as_chunks::<ENTRY_SIZE>();
+        let (chunks, _) = block.as_chunks::<ENTRY_SIZE>();
         for chunk in &chunks[1..1 + entries_in(count, number)] {
             entries.push(entry_in(chunk));
         }

@@ -1,7 +1,7 @@
 // Why a sheet is refused.
-ghost use Rattle.std.specs.Prelude.{◌≡◌, ℕ, min};
+ghost use Rattle.std.specs.Prelude.{◌≡◌, ℕ};
 ghost use Rattle.sheet.specs.declared.fault.SheetFault.TheVariants.{Plan, Check};
-ghost use Rattle.sheet.specs.Faults.{layer_of, number_of, place_of, plan_place, check_place};
+ghost use Rattle.sheet.specs.Faults.{in_usize, layer_of, number_of, place_of, plan_place, check_place};
 ghost use Rattle.sheet.specs.Format.{block_place, entry_place, reservation_place};
 
 use crate::blocks::{BLOCK_SIZE, HEAD_SIZE};
@@ -48,23 +48,23 @@ pub enum SheetFault {
     #[error("34: block {block} is not its entry block")]
     EntryBlock { block: usize },
     /// The sheet says a plan that is refused.
-    #[error("{0}")]
+    #[error(transparent)]
     Plan(PlanFault),
     /// The sheet says reservations that do not pass on its plan.
-    #[error("{0}")]
+    #[error(transparent)]
     Check(CheckFault),
 }
 
 // The byte where a block begins.
 fn block_place(block: usize) -> usize
-    ensures { result ≡ min (block_place block) 18446744073709551615 }
+    ensures { result ≡ in_usize (block_place block) }
 {
     block.saturating_mul(BLOCK_SIZE)
 }
 
 // The byte where an entry begins.
 fn entry_place(index: usize) -> usize
-    ensures { result ≡ min (entry_place index) 18446744073709551615 }
+    ensures { result ≡ in_usize (entry_place index) }
 {
     block_place(1 + index / BLOCK_ENTRIES).saturating_add(
         HEAD_SIZE + ENTRY_SIZE * (index % BLOCK_ENTRIES),
@@ -73,7 +73,7 @@ fn entry_place(index: usize) -> usize
 
 // The byte where a reservation begins.
 fn reservation_place(index: usize) -> usize
-    ensures { result ≡ min (reservation_place index) 18446744073709551615 }
+    ensures { result ≡ in_usize (reservation_place index) }
 {
     index
         .saturating_mul(RESERVATION_SIZE)
@@ -81,7 +81,7 @@ fn reservation_place(index: usize) -> usize
 }
 
 fn plan_place(fault: &PlanFault) -> usize
-    ensures { result ≡ min (plan_place fault.now) 18446744073709551615 }
+    ensures { result ≡ in_usize (plan_place fault.now) }
 {
     match fault {
         PlanFault::OutOfRange { index } => entry_place(*index),
@@ -91,7 +91,7 @@ fn plan_place(fault: &PlanFault) -> usize
 }
 
 fn check_place(fault: &CheckFault) -> usize
-    ensures { result ≡ min (check_place fault.now) 18446744073709551615 }
+    ensures { result ≡ in_usize (check_place fault.now) }
 {
     match fault {
         CheckFault::OutOfRange { index }
@@ -134,7 +134,7 @@ impl SheetFault {
     /// of a clash it is the later entry. It is 0 where the fault tells of none of them.
     /// No index in a fault of `load` is so large that the greatest `usize` stands in for the byte.
     pub fn place(&self) -> usize
-        ensures { result ≡ min (place_of self.now) 18446744073709551615 }
+        ensures { result ≡ in_usize (place_of self.now) }
     {
         match self {
             SheetFault::Size | SheetFault::Heading => 0,

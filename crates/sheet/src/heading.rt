@@ -1,5 +1,6 @@
 // The heading of a sheet, with its reservations.
 ghost use Rattle.std.specs.Prelude.{◌≡◌, ℕ, ◌+◌, ◌*◌, ◌/◌, ◌<◌, ◌≤◌, length, MatchOption, ◌≢◌};
+ghost use Rattle.std.specs.List.{concat};
 ghost use Rattle.sheet.specs.Format.{ReservationAt, block, blocks_for, byte};
 ghost use Rattle.sheet.specs.Read.{IsMarked, ListRead, HeadingRead};
 ghost use Rattle.sheet.specs.Told.{Headed};
@@ -62,6 +63,7 @@ fn read_reservations(bytes: &[u8], count: usize) -> Option<ArrayVec<Reservation,
 {
     let (chunks, _) = bytes.as_chunks::<RESERVATION_SIZE>();
     let mut list = ArrayVec::new();
+    // A loop, since `collect` takes an allocator, which `load` may not ask for.
     for chunk in &chunks[..count] {
         list.push(reservation_in(chunk)?);
     }
@@ -70,8 +72,9 @@ fn read_reservations(bytes: &[u8], count: usize) -> Option<ArrayVec<Reservation,
 
 // What the heading says of a sheet of these blocks.
 pub(crate) fn read_heading(blocks: &Blocks) -> Option<HeadingFields>
-    ensures { MatchOption result (Headed (block blocks.now.bytes.now 0) blocks.now.count → ⊥) (HeadingRead (block blocks.now.bytes.now 0) blocks.now.count) }
+    ensures { MatchOption result (Headed (block (concat blocks.now.blocks.now) 0) (length blocks.now.blocks.now) → ⊥) (HeadingRead (block (concat blocks.now.blocks.now) 0) (length blocks.now.blocks.now)) }
 {
+    // A slice pattern with the first bytes named: the project's form for a block.
     let [
         kind,
         number,
@@ -82,7 +85,7 @@ pub(crate) fn read_heading(blocks: &Blocks) -> Option<HeadingFields>
         entries,
         zero,
         rest @ ..,
-    ] = blocks.first()
+    ] = &blocks.first()[..]
     else {
         return None;
     };
@@ -90,7 +93,7 @@ pub(crate) fn read_heading(blocks: &Blocks) -> Option<HeadingFields>
     if *kind != HEADING || *number != 0 || *zero != 0 {
         return None;
     }
-    if reserved > MOST_RESERVATIONS || blocks_for(entries) != blocks.count() {
+    if reserved > MOST_RESERVATIONS || blocks_for(entries) != blocks.blocks.len() {
         return None;
     }
     let reservations = read_reservations(rest, reserved)?;
