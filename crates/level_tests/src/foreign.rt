@@ -19,9 +19,6 @@ pub fn end_elsewhere_first<T: Timetable, R: SpareRule, U: Timetable, S: SpareRul
     let ticket = home.begin(seat, activity, start, 1, deadline)?;
     match other.end(ticket) {
         Ok(ran) => Ok((None, ran)),
-        Err((refusal, ticket)) => match home.end(ticket) {
-            Ok(ran) => Ok((Some(refusal), ran)),
-            Err((_, _ticket)) => unreachable(),
-        },
+        Err((refusal, ticket)) => Ok((Some(refusal), home.end(ticket).unwrap())),
     }
 }

@@ -9,13 +9,7 @@ use std::test::Fail;
 
 // Whether exactly these ticks from 205 to 274 are marked for the seat.
 fn marks_are(level: &Level<Plan, Queue>, seat: u8, ticks: &[i32]) -> bool {
-    for t in 205..275i32 {
-        let is_marked = level.marked_for(t) == Some(seat);
-        if is_marked != ticks.contains(&t) {
-            return false;
-        }
-    }
-    true
+    (205..275).all(|t| (level.marked_for(t) == Some(seat)) == ticks.contains(&t))
 }
 
 fn run_to(level: &mut Level<Plan, Queue>, clock: i32) {
@@ -28,14 +22,7 @@ fn run_to(level: &mut Level<Plan, Queue>, clock: i32) {
 
 #[test]
 fn own_ticks_come_first_and_then_free_ones(rt: HostRuntime) -> Result<(), Fail> {
-    let plan = match example_plan(rt.alloc()) {
-        Ok(plan) => plan,
-        Err(_) => {
-            assert!(rt; false);
-            return Ok(())
-        },
-    };
-    let mut level = Level::open(0, 205, plan, Queue::new());
+    let mut level = Level::open(0, 205, example_plan(rt.alloc())?, Queue::new());
     assert_eq!(rt; open_door(&mut level, 0, 0, 230, 11, 270), Ok(()));
     assert!(rt;
         marks_are(

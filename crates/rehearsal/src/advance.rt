@@ -110,9 +110,6 @@ impl<'a, T: Timetable, R: SpareRule> Rehearsal<'a, T, R> {
         if self.reader.at_end() {
             return Progress::Over;
         }
-        match self.play_line() {
-            Some(row) => Progress::Told(row),
-            None => Progress::Silent,
-        }
+        self.play_line().map_or(Progress::Silent, Progress::Told)
     }
 }

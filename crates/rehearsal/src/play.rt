@@ -66,10 +66,10 @@ pub fn play_begin<T: Timetable, R: SpareRule>(
     ensures plays { PlaysCommand R.SpareRule (stage T.Timetable R.SpareRule level.old) (Begin seat activity start deadline estimate) (result ∷ []) (stage T.Timetable R.SpareRule level.new) }
 {
     match level.begin(seat, activity, start, estimate, deadline) {
-        Ok(ticket) => match level.leave(ticket) {
-            Ok(()) => Row::Began { seat },
-            Err(_) => unreachable(),
-        },
+        Ok(ticket) => {
+            level.leave(ticket).unwrap();
+            Row::Began { seat }
+        }
         Err(refusal) => Row::BeginRefused {
             seat,
             number: refusal.number(),
@@ -83,9 +83,9 @@ pub fn play_end<T: Timetable, R: SpareRule>(level: &mut Level<T, R>, seat: u16) 
     ensures plays { PlaysCommand R.SpareRule (stage T.Timetable R.SpareRule level.old) (End seat) (result ∷ []) (stage T.Timetable R.SpareRule level.new) }
 {
     match level.collect(seat) {
-        Ok(ticket) => match level.end(ticket) {
-            Ok(taken) => Row::Ended { seat, taken },
-            Err(_) => unreachable(),
+        Ok(ticket) => Row::Ended {
+            seat,
+            taken: level.end(ticket).unwrap(),
         },
         Err(refusal) => Row::EndRefused {
             seat,

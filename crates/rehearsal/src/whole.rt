@@ -51,6 +51,7 @@ pub fn rehearse<S: Sink>(
     let mut list = [Reservation::default(); 16];
     match load(sheet, &mut plan, &mut list) {
         Ok(_) => rehearse_on(plan, script, sink).map_err(RehearsalFault::Output),
+        // No `ok_or` and `?`: `ok_or` asks that its error can be dropped, and so the fault of any sink.
         Err(fault) => match fault.number() {
             Some(_) => hand_row(&Row::Malformed { line: 0 }, sink).map_err(RehearsalFault::Output),
             None => Err(RehearsalFault::Memory),

@@ -2,8 +2,6 @@
 // It is thin: a whole rehearsal, from the bytes of sheet and script to those of the rows, is proved in `rehearsal`.
 #![tactic(auto)]
 
-ghost use Rattle.std.specs.Prelude.{◌≤◌, length, IfOk};
-
 use anyhow::Context;
 use command::opening::MOST_BYTES;
 use plan::plan::Plan;
@@ -31,21 +29,13 @@ impl Sink for Output<'_> {
     }
 }
 
-// Reads standard input until it ends or the buffer is full, and says how much it is. Of std's methods `read_exact` fails where the
-// input ends before, and `read_to_end` asks for memory.
-fn read_input(rt: &HostRuntime, buf: &mut [u8]) -> io::Result<usize>
-    ensures { IfOk result (λ n. n ≤ length buf.old) }
-{
-    let mut input = rt.stdin();
-    let mut have = 0;
-    while have < buf.len() {
-        let n = input.read(&mut buf[have..])?;
-        if n == 0 {
-            break;
-        }
-        have += n;
-    }
-    Ok(have)
+// Reads standard input until it ends, or until it is too long for a script: one byte more than a script may have tells that.
+fn read_input(rt: &HostRuntime) -> io::Result<Vec<u8>> {
+    let mut script = Vec::new(rt.alloc());
+    rt.stdin()
+        .take(MOST_BYTES as u64 + 1)
+        .read_to_end(&mut script)?;
+    Ok(script)
 }
 
 // Whether the sheet is refused. Want of memory is no verdict on it.
@@ -61,17 +51,16 @@ fn is_refused(heap: Global, sheet: &[u8]) -> anyhow::Result<bool> {
     }
 }
 
-// One byte more than a script may have is enough to tell that it is too long. Beside a refused sheet nobody waits for a script.
+// Beside a refused sheet nobody waits for a script.
 fn run(rt: &HostRuntime) -> anyhow::Result<()> {
     let sheet = fs::read(rt, "plan.bin")?;
-    let mut script = [0u8; MOST_BYTES + 1];
-    let size = if is_refused(rt.alloc(), sheet.as_slice())? {
-        0
+    let script = if is_refused(rt.alloc(), sheet.as_slice())? {
+        Vec::new(rt.alloc())
     } else {
-        read_input(rt, &mut script)?
+        read_input(rt)?
     };
     let mut output = Output { rt };
-    rehearse(rt.alloc(), sheet.as_slice(), &script[..size], &mut output)?;
+    rehearse(rt.alloc(), sheet.as_slice(), script.as_slice(), &mut output)?;
     Ok(())
 }
 

@@ -1,5 +1,6 @@
 -- Rows that wait in a buffer for their sink. A buffer is seen as the bytes that wait in it.
-use Rattle.std.specs.Prelude.{◌≡◌, ℕ, Bool, true, false, List, [], ◌++◌, Ok, Err, Result, ◌≢◌}
+use Rattle.std.specs.Prelude.{◌≡◌, ℕ, List, [], ◌++◌, Ok, Err, Result, ◌≢◌}
+use Rattle.row.specs.declared.row.RowFault.{RowFault}
 use Rattle.row.specs.Sinks.{Handed}
 
 -- a text is put behind what waits; for want of room what waits may be handed on first. Where the sink does not take that, the text is not put
@@ -13,6 +14,6 @@ Flushes hands s b (Ok u) s' b' = hands s b (Ok tt) s' × (b' ≡ [])
 Flushes hands s b (Err f) s' b' = hands s b (Err f) s' × (b' ≡ b)
 
 -- a text is put behind what waits, or has no room and the buffer stays; where nothing waits there is always room
-abbrev pub Appends : List ℕ → List ℕ → Bool → List ℕ → Type 0
-Appends b text true b' = b' ≡ b ++ text
-Appends b text false b' = (b' ≡ b) × (b ≢ [])
+abbrev pub Appends : List ℕ → List ℕ → Result (Unit {0}) RowFault → List ℕ → Type 0
+Appends b text (Ok u) b' = b' ≡ b ++ text
+Appends b text (Err f) b' = (b' ≡ b) × (b ≢ [])

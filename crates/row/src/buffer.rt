@@ -3,7 +3,7 @@ ghost use Rattle.std.specs.Prelude.{◌≡◌, ℕ, ◌≤◌, [], length};
 ghost use Rattle.row.specs.Buffers.{Appends, Puts, Flushes};
 ghost use Rattle.row.specs.Rows.{row_text};
 
-use crate::row::Row;
+use crate::row::{Row, RowFault};
 use crate::sink::Sink;
 use crate::write::write_row;
 use std::marker::Model;
@@ -50,29 +50,23 @@ impl RowBuffer {
     }
 
     // Puts a row behind those that wait, if it has room.
-    fn append(&mut self, row: &Row) -> bool
+    fn append(&mut self, row: &Row) -> Result<(), RowFault>
         ensures { Appends self.old (row_text row.now) result self.new }
     {
-        match write_row(row, &mut self.bytes[self.used..]) {
-            Ok(size) => {
-                self.used += size;
-                true
-            }
-            Err(_) => false,
-        }
+        let size = write_row(row, &mut self.bytes[self.used..])?;
+        self.used += size;
+        Ok(())
     }
 
     /// Puts a row behind those that wait; where it has no room, they are handed to the sink first.
     pub fn put<S: Sink>(&mut self, row: &Row, sink: &mut S) -> Result<(), S::Fault>
         ensures { Puts S.Sink.hands sink.old self.old (row_text row.now) result sink.new self.new }
     {
-        if self.append(row) {
+        if self.append(row).is_ok() {
             return Ok(());
         }
         self.flush(sink)?;
-        if self.append(row) {
-            return Ok(());
-        }
-        unreachable()
+        self.append(row).unwrap();
+        Ok(())
     }
 }

@@ -10,8 +10,6 @@ pub fn hand_row<S: Sink>(row: &Row, sink: &mut S) -> Result<(), S::Fault>
     ensures { S.Sink.hands sink.old (row_text row.now) result sink.new }
 {
     let mut line = [0u8; LONGEST_ROW];
-    match write_row(row, &mut line) {
-        Ok(size) => sink.take(&line[..size]),
-        Err(_) => unreachable(),
-    }
+    let size = write_row(row, &mut line).unwrap();
+    sink.take(&line[..size])
 }

@@ -23,10 +23,8 @@ pub fn open_door<T: Timetable, R: SpareRule>(
     ensures plays { LevelPlays T.Timetable R.SpareRule level.old level.new }
 {
     let ticket = level.begin(seat, door, start, needed, deadline)?;
-    match level.leave(ticket) {
-        Ok(()) => Ok(()),
-        Err((_, _ticket)) => unreachable(),
-    }
+    level.leave(ticket).unwrap();
+    Ok(())
 }
 
 /// Closes the door that another script opened, and returns the ticks that it ran.
@@ -38,8 +36,5 @@ pub fn close_door<T: Timetable, R: SpareRule>(
     ensures plays { LevelPlays T.Timetable R.SpareRule level.old level.new }
 {
     let ticket = level.collect(seat)?;
-    match level.end(ticket) {
-        Ok(ran) => Ok(ran),
-        Err((_, _ticket)) => unreachable(),
-    }
+    Ok(level.end(ticket).unwrap())
 }

@@ -12,6 +12,7 @@ use spare::rule::SpareRule;
 use timetable::table::Timetable;
 
 /// Why a constraint was not ended.
+// No `thiserror`: an error can be dropped, and a ticket cannot.
 pub enum Failure {
     /// It was not begun, or its ticket was not there.
     Missing { refusal: Refusal },
@@ -36,8 +37,7 @@ pub fn finish<T: Timetable, R: SpareRule>(
     ensures done { Finished (meaning T.Timetable R.SpareRule level.old) ticket result (meaning T.Timetable R.SpareRule level.new) }
     ensures plays { LevelPlays T.Timetable R.SpareRule level.old level.new }
 {
-    match level.end(ticket) {
-        Ok(ran) => Ok(ran),
-        Err((refusal, ticket)) => Err(Failure::Held { refusal, ticket }),
-    }
+    level
+        .end(ticket)
+        .map_err(|(refusal, ticket)| Failure::Held { refusal, ticket })
 }

@@ -1,17 +1,20 @@
-use Rattle.std.proofs.Common.{[], ◌∷◌, Ok, Err, refl, ap}
+use Rattle.std.proofs.Common.{[], ◌∷◌, Ok, Err, refl, ap, subst}
 use Rattle.std.proofs.lemmas.Int.{to_z-of_z}
 use Rattle.row.specs.declared.row.Row.TheVariants.{BeginRefused}
+use Rattle.level.specs.Levels.{meaning, Called, leave_event}
 use Rattle.rehearsal.proofs.Playing.{one_call, two_calls}
 use Rattle.rehearsal.proofs.Tickets.{left_sound}
 use Rattle.rehearsal.proofs.play.play_begin.Goals as goal
 
-pub returns-in-Ok-leave-clause-plays : goal.returns-in-Ok-leave-clause-plays
-returns-in-Ok-leave-clause-plays g c =
+pub returns-in-Ok-clause-plays : goal.returns-in-Ok-clause-plays
+returns-in-Ok-clause-plays g c =
     let fs = c.ranges.start in
     let fd = c.ranges.deadline in
     let b = simp to_z-of_z at c.in-Ok.ensures in
-    let l = c.in-Ok-leave.ensures.called in
-    two_calls (Ok c.in-Ok.ticket, refl) (record { called = b.called; rule = b.rule; means = refl }) (record { called = l.called; rule = l.rule; means = refl }) refl
+    let f = meaning g.T.Timetable g.R.SpareRule in
+    let l = c.leave.ensures.called in
+    let done = subst (λ r. Called (f c.begin.new.self) (leave_event c.in-Ok.ticket r) (f c.leave.new.self)) c.unwrap.ensures l.called in
+    two_calls (Ok c.in-Ok.ticket, refl) (record { called = b.called; rule = b.rule; means = refl }) (record { called = done; rule = l.rule; means = refl }) refl
 
 pub returns-in-Err-clause-plays : goal.returns-in-Err-clause-plays
 returns-in-Err-clause-plays g c =
@@ -21,5 +24,5 @@ returns-in-Err-clause-plays g c =
     one_call (Err c.in-Err.refusal, refl) (record { called = e.called; rule = e.rule; means = refl })
     (ap (λ n. BeginRefused c.args.seat n ∷ []) c.number.ensures)
 
-pub unreachable-requires : goal.unreachable-requires
-unreachable-requires g c = left_sound _ _ _ c.args.seat c.args.activity _ c.args.estimate _ c.in-Ok.ticket _ c.in-Ok.ensures.called.step c.in-Err-leave.ensures.called.called.step
+pub unwrap-requires : goal.unwrap-requires
+unwrap-requires g c = left_sound _ _ _ c.args.seat c.args.activity _ c.args.estimate _ c.in-Ok.ticket _ c.in-Ok.ensures.called.step c.leave.ensures.called.called.step

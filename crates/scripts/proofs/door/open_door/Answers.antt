@@ -8,5 +8,5 @@ returns-in_err-ticket-clause-plays g c = by_call c.begin.ensures.called
 pub returns-clause-plays : goal.returns-clause-plays
 returns-clause-plays g c = chain (by_call c.begin.ensures.called) (by_call c.leave.ensures.called.called)
 
-pub unreachable-requires : goal.unreachable-requires
-unreachable-requires g c = left_at_once _ _ _ _ _ _ _ _ _ _ c.in_ok-ticket.ensures.called.step c.in-Err.ensures.called.called.step
+pub unwrap-requires : goal.unwrap-requires
+unwrap-requires g c = left_at_once _ _ _ _ _ _ _ _ _ _ c.in_ok-ticket.ensures.called.step c.leave.ensures.called.called.step

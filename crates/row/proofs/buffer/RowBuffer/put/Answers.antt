@@ -1,16 +1,28 @@
-use Rattle.std.proofs.Common.{[], ◌++◌, ap, ◌∙◌}
+use Rattle.std.proofs.Common.{◌≡◌, ℕ, true, false, List, [], ◌++◌, Ok, Err, Result, sym, ap, ◌∙◌}
+use Rattle.std.specs.Result.{is_ok}
+use Rattle.row.specs.declared.row.RowFault.{RowFault}
+use Rattle.row.specs.Buffers.{Appends}
 use Rattle.row.specs.Rows.{row_text}
 use Rattle.row.specs.Sinks.{nothing, more}
 use Rattle.row.proofs.buffer.RowBuffer.put.Goals as goal
 
-pub returns-then-append : goal.returns-then-append
-returns-then-append g c = ([], nothing, c.if-append.ensures)
+-- by the test of what was appended: the text is put, or the buffer stayed
+put_if : (b t : List ℕ) (r : Result (Unit {0}) RowFault) (b' : List ℕ) → is_ok r ≡ true → Appends b t r b' → b' ≡ b ++ t
+put_if b t (Ok u) b' e h = h
+put_if b t (Err f) b' e h = cc
 
-pub returns-then-append-2 : goal.returns-then-append-2
-returns-then-append-2 g c =
+stays_if : (b t : List ℕ) (r : Result (Unit {0}) RowFault) (b' : List ℕ) → is_ok r ≡ false → Appends b t r b' → b' ≡ b
+stays_if b t (Ok u) b' e h = cc
+stays_if b t (Err f) b' e h = h.0
+
+pub returns-then-is_ok : goal.returns-then-is_ok
+returns-then-is_ok g c = ([], nothing, put_if c.args.self.now (row_text c.args.row.now) c.append.result c.append.new.self (sym c.is_ok.ensures.value ∙ c.if-is_ok.true) c.append.ensures)
+
+pub returns : goal.returns
+returns g c =
     let sent = c.in_ok-flush.ensures in
-    let same = c.if-append.ensures.0 in
-    let put = c.if-append-2.ensures in (
+    let same = stays_if c.args.self.now (row_text c.args.row.now) c.append.result c.append.new.self (sym c.is_ok.ensures.value ∙ c.if-is_ok.false) c.append.ensures in
+    let put = put_if c.flush.new.self (row_text c.args.row.now) c.append-2.result c.append-2.new.self (ap is_ok c.unwrap.ensures) c.append-2.ensures in (
       c.append.new.self,
       more c.append.new.self c.flush.new.sink nothing sent.0,
       ap (λ x. c.append.new.self ++ x) (put ∙ ap (λ x. x ++ row_text c.args.row.now) sent.1) ∙ ap (λ x. x ++ row_text c.args.row.now) same,
