@@ -30,6 +30,7 @@ impl<const MOST: u16> Span<MOST> {
     pub fn new(ticks: u16) -> Option<Span<MOST>>
         ensures { MatchOption result ((1 ≤ ticks) × (ticks ≤ MOST) → ⊥) (λ s. s.ticks ≡ ticks) }
     {
+        // A guard: `then_some` would make the span first, which is none out of range.
         if ticks < 1 || MOST < ticks {
             return None;
         }

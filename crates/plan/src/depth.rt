@@ -17,6 +17,7 @@ impl Depth {
     pub(crate) fn new(levels: u8) -> Option<Depth>
         ensures { MatchOption result (levels ≤ 5 → ⊥) (λ d. d.levels ≡ levels) }
     {
+        // A guard: `then_some` would make the depth first, which is none out of range.
         if levels > MOST_DEPTH {
             return None;
         }

@@ -41,7 +41,8 @@ impl<'a, T: Timetable, R: SpareRule> Rehearsal<'a, T, R> {
         row
     }
 
-    // The line is malformed: nothing is read after it.
+    // The line is malformed: nothing is read after it. That no tick of a line is left is asked here and of the next two (`advance` tests
+    // it), and is no fact of the type.
     fn refuse(&mut self, line: u32) -> Row
         requires { self.old.ticks ≡ 0 }
         ensures goes { Refused (state T.Timetable R.SpareRule self.old) line result (state T.Timetable R.SpareRule self.new) }
