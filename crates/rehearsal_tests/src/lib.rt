@@ -1,13 +1,15 @@
-// Tests of scripts and rows at their edges. It uses `level` and `rehearsal`.
+// Tests of scripts and rows at their edges, and of whole rehearsals. It uses `cases` and `rehearsal`, and what is below them.
 #![tactic(auto)]
 
 #[cfg(test)]
 mod tests {
+    use cases::example_plan;
     use command::command::{Command, ScriptFault};
     use command::opening::read_opening;
     use command::reader::Reader;
     use level::ticked::Letter;
     use rehearsal::fault::RehearsalFault;
+    use rehearsal::whole::rehearse_on;
     use row::row::{Row, RowFault};
     use row::write::write_row;
     use std::test::Fail;
@@ -105,6 +107,52 @@ mod tests {
         let mut short = [7u8; 15];
         assert_eq!(rt; write_row(&row, &mut short), Err(RowFault::Full));
         assert!(rt; short == [7u8; 15]);
+    }
+
+    // The script gives these rows over the example plan.
+    fn gives(rt: HostRuntime, script: &[u8], rows: &[u8]) -> Result<(), Fail> {
+        let heap = rt.alloc();
+        let mut told = Vec::new(heap);
+        rehearse_on(example_plan(heap)?, script, &mut told)?;
+        if told.as_slice() == rows {
+            Ok(())
+        } else {
+            Err(Fail::new("it gives other rows"))
+        }
+    }
+
+    #[test]
+    fn a_refused_call_has_its_row(rt: HostRuntime) -> Result<(), Fail> {
+        gives(rt, b"o 0 0\nw 16\nb 16\n", b"w 16 no 2\nb 16 no 2\n")?;
+        gives(rt, b"o 0 0\nc 0 16 0 20 1\n", b"c 0 no 2\n")?;
+        gives(rt, b"o 0 0\nc 0 1 0 20 0\n", b"c 0 no 3\n")?;
+        gives(rt, b"o 0 0\nc 0 1 -1 20 1\n", b"c 0 no 4\n")?;
+        gives(rt, b"o 0 0\nc 0 1 5 5 1\n", b"c 0 no 5\n")?;
+        gives(rt, b"o 0 0\nc 16 1 0 20 1\n", b"c 16 no 6\n")?;
+        gives(rt, b"o 0 0\nc 0 1 0 20 20\n", b"c 0 no 7\n")?;
+        gives(rt, b"o 0 0\ne 16\ne 1\n", b"e 16 no 9\ne 1 no 9\n")?;
+        gives(
+            rt,
+            b"o 2147483646 0\nt 3\nw 16\n",
+            b"2147483646 - i\nt no 1\nw 16 no 2\n",
+        )
+    }
+
+    #[test]
+    fn a_seat_is_free_again_after_its_end(rt: HostRuntime) -> Result<(), Fail> {
+        gives(
+            rt,
+            b"o 0 0\nc 0 1 0 20 1\nc 0 1 0 20 1\ne 0\ne 0\nc 0 1 0 20 1\n",
+            b"c 0 ok\nc 0 no 6\ne 0 0\ne 0 no 9\nc 0 ok\n",
+        )
+    }
+
+    #[test]
+    fn a_malformed_line_ends_the_rehearsal(rt: HostRuntime) -> Result<(), Fail> {
+        gives(rt, b"o 7 0\nt 1\no 7 0\nt 1\n", b"7 - i\n? 3\n")?;
+        gives(rt, b"o 7 0\nt 1\nt 1", b"7 - i\n? 3\n")?;
+        gives(rt, b"t 1\n", b"? 1\n")?;
+        gives(rt, b"", b"? 1\n")
     }
 
     #[test]
