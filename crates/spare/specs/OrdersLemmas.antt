@@ -5,6 +5,7 @@ use Rattle.std.proofs.Common.{⊎_elim, sym, ap, subst, ◌∙◌, arith}
 use Rattle.std.proofs.lemmas.List.{take_all, drop_all, length-take, length-drop, append-nil, take-append-drop, get_or-take, get_or_append_left, get_or-append_right, get_or_push, length-append}
 use Rattle.std.proofs.lemmas.Bool.{eqb-true, eq-eqb, cases_order, cases_lt, both_ways}
 use Rattle.std.specs.List.{list_any}
+use Rattle.std.proofs.lemmas.List.Folds.{list_any_at}
 use Rattle.std.proofs.lemmas.List.Sums.{position_or_len_is, fails_before_first, passes_at_first}
 use Rattle.spare.specs.Orders.{first_ready, sent_back, passed_over, place_of, times}
 use Rattle.spare.specs.Search.{moved, NoneIn, FirstAt}
@@ -43,6 +44,10 @@ told_first false u n h = h
 pub times_any : (a : ℕ) (xs : List ℕ) → Decides (list_any (λ x. x == a) xs) (1 ≤ times a xs)
 times_any a [] = (λ e. absurd (both_ways false refl e), λ h. absurd (omega arith))
 times_any a (x ∷ xs) = told_first (x == a) (list_any (λ y. y == a) xs) (times a xs) (times_any a xs)
+
+-- one that stands at some place stands there at all
+pub stands_there : (a : ℕ) (xs : List ℕ) (k : ℕ) → k < length xs → slice_index xs k ≡ a → 1 ≤ times a xs
+stands_there a xs k h e = (times_any a xs).0 (list_any_at (λ x. x == a) xs k 0 h (eq-eqb _ a e))
 
 -- how often one stands in two lists together
 one_more : (t : Bool) (m n : ℕ) → cond t (suc (m + n)) (m + n) ≡ cond t (suc m) m + n

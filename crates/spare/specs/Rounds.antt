@@ -76,13 +76,13 @@ module _ (xs : List ℕ) where
 
 -- the searches after the mark and up to it, as one search round the table
 module _ (ready : ℕ → Bool) (xs : List ℕ) (m : ℕ) (l : m < length xs) where
-  next_ahead : (k : ℕ) → FirstAt ready (drop (m + 1) xs) k → NextAt ready xs m (m + 1 + k)
+  pub next_ahead : (k : ℕ) → FirstAt ready (drop (m + 1) xs) k → NextAt ready xs m (m + 1 + k)
   next_ahead k f = record {
     within = omega (arith, f.within, length-drop (m + 1) xs);
     first = subst (FirstAt ready (after_mark xs m)) (sym (passed_ahead (length xs) m (m + 1 + k) (omega arith) ∙ omega arith)) (first_left ready (drop (m + 1) xs) (take (m + 1) xs) k f);
   }
 
-  next_round : (i : ℕ) → NoneIn ready (drop (m + 1) xs) → FirstAt ready (take (m + 1) xs) i → NextAt ready xs m i
+  pub next_round : (i : ℕ) → NoneIn ready (drop (m + 1) xs) → FirstAt ready (take (m + 1) xs) i → NextAt ready xs m i
   next_round i none f =
       let long = length-take (m + 1) xs in
       let w = f.within in

@@ -1,5 +1,6 @@
 -- What a wheel is, and what one call of it does.
-use Rattle.std.specs.Prelude.{◌≡◌, ℕ, ◌+◌, ◌%◌, ◌<◌, ◌≤◌, Bool, List, ◌++◌, length, take, drop, Some, None, Option, slice_index}
+use Rattle.std.specs.Prelude.{◌≡◌, ℕ, ◌+◌, ◌%◌, ◌<◌, ◌≤◌, Bool, List, ◌++◌, length, take, drop, Some, None, Option, Vec, slice_index}
+use Rattle.std.specs.declared.alloc.Global.{Global}
 use Rattle.spare.specs.Orders.{first_ready, passed_over, times}
 
 -- 16 to 64 places, an activity at each, and every activity at some place
@@ -9,9 +10,11 @@ pub record Table (places : List ℕ) : Type 0 where
   pub known : (k : ℕ) → k < length places → slice_index places k < 16
   pub all : (a : ℕ) → a < 16 → 1 ≤ times a places
 
--- a wheel, as its callers see it: its places, and the mark on one of them
+-- a wheel, as its callers see it: its places, the vector that holds them, and the mark on one of them
 pub record MarkedTable : Type 0 where
   pub places : List ℕ
+  -- with its memory, which a refused filling leaves as it was
+  pub stored : Vec ℕ Global
   pub mark : ℕ
   pub table : Table places
   pub marked : mark < length places

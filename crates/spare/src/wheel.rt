@@ -18,13 +18,14 @@ pub struct Wheel {
     ghost marked: { mark < length places.items },
 }
 
-// The value carries the facts `table` and `marked`, since the law `bounded` of a rule is asked of every value.
+// The value carries the facts `table` and `marked`, since the law `bounded` of a rule is asked of every value, and the vector,
+// since a refused `fill` leaves its memory as it was.
 impl Model for Wheel {
     ghost use Rattle.spare.specs.Wheels.{MarkedTable};
 
     ghost Value = { MarkedTable };
 
-    ghost view = { λ w. record { places = w.places.items; mark = w.mark; table = w.table; marked = w.marked } };
+    ghost view = { λ w. record { places = w.places.items; stored = w.places; mark = w.mark; table = w.table; marked = w.marked } };
 }
 
 impl Wheel {
