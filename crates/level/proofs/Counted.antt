@@ -1,7 +1,6 @@
 -- Counts stay below the ticks since the least clock.
 use Rattle.std.proofs.Common.{◌≡◌, ℕ, zero, suc, ◌+◌, ◌<◌, Bool, cond, List, length, get_or, set, replicate, ℤ, pos, ◌+ℤ◌, ◌≤ℤ◌, ◌<ℤ◌, Some, None, Option, sym, refl, ap, ◌∙◌, ⊎_elim, arith}
 use Rattle.std.proofs.lemmas.Int.{ints}
-use Rattle.std.proofs.lemmas.List.{get_or-set_same, get_or-set_other}
 use Rattle.std.proofs.lemmas.Bool.{cases_eq, cases_Bool, cond-true, cond-false}
 use Rattle.level.specs.Meaning.{Constraint}
 use Rattle.level.specs.Held.{one_more_run}
@@ -9,6 +8,7 @@ use Rattle.level.specs.Bounds.{AtMost, RanBound, UsedBound}
 use Rattle.level.specs.Seats.{seat_at, one_more}
 use Rattle.level.specs.Ticks.{one, is}
 use Rattle.level.proofs.Counts.{none_some}
+use Rattle.level.proofs.Seated.{not_on, below, seat_set, seat_unset}
 use Rattle.level.proofs.Tallies.{one_le}
 use Rattle.level.proofs.Window.{empty}
 
@@ -19,8 +19,10 @@ room c n l b = omega (arith, ints)
 pub ran_set : (c : ℤ) (xs : List (Option Constraint)) (i : ℕ) (y : Option Constraint) → i < length xs → ((h : Constraint) → y ≡ Some h → AtMost c h.ran) → RanBound c xs → RanBound c (set xs i y)
 ran_set c xs i y lt few b s h e =
     ⊎_elim
-    (λ q. few h (sym (get_or-set_same xs i y None lt) ∙ ap (λ k. seat_at (set xs i y) k) (sym q) ∙ e))
-    (λ ne. b s h (sym (get_or-set_other xs i s y None ne) ∙ e))
+    (λ q.
+    let at = ap (λ k. seat_at (set xs i y) k) (sym q) ∙ e in
+    few h (sym (seat_set xs i y lt (below (set xs i y) i h at)) ∙ at))
+    (λ ne. b s h (sym (seat_unset xs i y s ne) ∙ e))
     (cases_eq s i)
 
 -- one tick more, and the clock moves on
@@ -57,7 +59,7 @@ zero_used (suc n) zero = refl
 zero_used (suc n) (suc a) = zero_used n a
 
 pub ran_fresh : (c : ℤ) (n : ℕ) → RanBound c (replicate n None)
-ran_fresh c n s h e = absurd (none_some (seat_at (replicate n None) s) h (empty n s) e)
+ran_fresh c n s h e = absurd (none_some (seat_at (replicate n None) s) h (not_on (replicate n None) s (empty n s)) e)
 
 pub used_fresh : (c : ℤ) → pos 0 ≤ℤ (c +ℤ pos 2147483648) → (n : ℕ) → UsedBound c (replicate n 0)
 used_fresh c h n a l = let z = zero_used n a in omega (arith, ints)

@@ -3,7 +3,6 @@ use Rattle.std.proofs.Common.{◌≡◌, ℕ, ◌≤◌, Bool, true, false, cond
 use Rattle.timetable.specs.declared.table.Timetable.{Ghosts as Timetables}
 use Rattle.spare.specs.declared.rule.SpareRule.{Ghosts as SpareRules}
 use Rattle.std.proofs.lemmas.Bool.{cond-true, cond-false, eq-eqb, ne_eqb, cases_eq}
-use Rattle.std.proofs.lemmas.List.{get_or-set_same, get_or-set_other}
 use Rattle.spare.specs.Sets.{is_ready}
 use Rattle.level.specs.declared.board.Board.{Board}
 use Rattle.level.specs.declared.inner.Inner.{Inner}
@@ -20,6 +19,7 @@ use Rattle.level.specs.Steps.{Step, Beside, Handed}
 use Rattle.level.specs.Levels.{meaning, seen, Calls}
 use Rattle.level.specs.Parts.{Reseat, ran_of, Freed, TicketIsOut, TicketIsLeft, Fine}
 use Rattle.level.proofs.Refusing.{called, end_sound, leave_sound, collect_sound, fine_sound, fine_few}
+use Rattle.level.proofs.Seated.{below, seat_set, seat_unset}
 use Rattle.level.proofs.Seen.{seen_gone, seen_else, count_seen, chosen_seen, marks_seen}
 
 -- one value of a set is put to `to`, and the others stay
@@ -57,8 +57,8 @@ module _ {T R : Type 0} (ts : Timetables T) (rs : SpareRules R) where
     was = h;
     at = at;
     seat = record {
-      seat = ap (λ xs. seat_at xs s) e.seats ∙ get_or-set_same l.inner.seats s _ None e.inside ∙ ap (handed o) at;
-      others = λ k ne. ap (λ xs. seat_at xs k) e.seats ∙ get_or-set_other l.inner.seats s k _ None ne;
+      seat = ap (λ xs. seat_at xs s) e.seats ∙ seat_set l.inner.seats s _ e.inside (below l.inner.seats s h at) ∙ ap (handed o) at;
+      others = λ k ne. ap (λ xs. seat_at xs k) e.seats ∙ seat_unset l.inner.seats s _ k ne;
     };
     marks = ap (λ c. seen c (holder j.board)) e.clock ∙ ap (λ b. seen l.inner.clock (holder b)) e.board;
   }
@@ -83,8 +83,8 @@ module _ {T R : Type 0} (ts : Timetables T) (rs : SpareRules R) where
       at = o.at;
       told = e.ran ∙ ap ran_of o.at;
       seat = record {
-        seat = ap (λ xs. seat_at xs x.seat) e.seats ∙ get_or-set_same l.inner.seats x.seat None None e.inside;
-        others = λ k ne. ap (λ xs. seat_at xs k) e.seats ∙ get_or-set_other l.inner.seats x.seat k None None ne;
+        seat = ap (λ xs. seat_at xs x.seat) e.seats ∙ seat_set l.inner.seats x.seat None e.inside o.known;
+        others = λ k ne. ap (λ xs. seat_at xs k) e.seats ∙ seat_unset l.inner.seats x.seat None k ne;
       };
       gone = λ u q. ap (λ c. seen c (holder j.board) u) e.clock ∙ seen_gone l.inner.clock (holder l.inner.board) (holder j.board) x.seat e.board u q;
       others = λ u q. ap (λ c. seen c (holder j.board) u) e.clock ∙ seen_else l.inner.clock (holder l.inner.board) (holder j.board) x.seat e.board u q;
@@ -113,8 +113,8 @@ module _ {T R : Type 0} (ts : Timetables T) (rs : SpareRules R) where
             beside = beside l j r.number r.clock r.ready r.used;
             ticket = ap (λ k. record { level = k; seat = s }) r.number;
             seat = record {
-              seat = ap (λ xs. seat_at xs s) r.seats ∙ get_or-set_same l.inner.seats s (Some (asked a t e d)) None r.inside;
-              others = λ k ne. ap (λ xs. seat_at xs k) r.seats ∙ get_or-set_other l.inner.seats s k (Some (asked a t e d)) None ne;
+              seat = ap (λ xs. seat_at xs s) r.seats ∙ seat_set l.inner.seats s (Some (asked a t e d)) r.inside f.seat;
+              others = λ k ne. ap (λ xs. seat_at xs k) r.seats ∙ seat_unset l.inner.seats s (Some (asked a t e d)) k ne;
             };
             chosen = g.0;
             choice = chosen_seen c t d h w a f.from f.to f.near e g.0 _ g.1;

@@ -1,5 +1,5 @@
 -- From what the code does at a tick to the step of a tick.
-use Rattle.std.proofs.Common.{◌≡◌, ℕ, ◌+◌, true, false, cond, get_or, ℤ, pos, ◌+ℤ◌, Some, None, Option, sym, refl, ap, ◌∙◌, subst}
+use Rattle.std.proofs.Common.{◌≡◌, ℕ, ◌+◌, ◌<◌, true, false, cond, get_or, ℤ, pos, ◌+ℤ◌, Some, None, Option, sym, refl, ap, ◌∙◌, subst}
 use Rattle.timetable.specs.declared.table.Timetable.{Ghosts as Timetables}
 use Rattle.spare.specs.declared.rule.SpareRule.{Ghosts as SpareRules}
 use mathlib.Core.Path.{fun_ext}
@@ -20,19 +20,23 @@ use Rattle.level.specs.Promises.{is_for}
 use Rattle.level.specs.Levels.{meaning}
 use Rattle.level.specs.Parts.{RunnerOf, GivenTo, Advanced}
 use Rattle.level.proofs.Refusing.{tick_sound}
+use Rattle.level.proofs.Seated.{below}
 use Rattle.level.proofs.Seen.{seen_here, seen_spent, seen_others}
 
 module _ {T R : Type 0} (ts : Timetables T) (rs : SpareRules R) where
   pub by_mark :
-      (l : Level T R) (s a : ℕ) → holder l.inner.board l.inner.clock ≡ Some s → (r : RunnerOf l.inner s (Some a)) →
-      ByMark (meaning ts rs l) s a
-  by_mark l s a mark r = record {
-    mark = seen_here (holder l.inner.board) l.inner.clock ∙ mark;
-    held = r.0;
-    seat = r.1;
-    activity = r.2;
-    ready = r.3;
-  }
+      (l : Level T R) (s a : ℕ) → holder l.inner.board l.inner.clock ≡ Some s → RunnerOf l.inner s (Some a) →
+      ByMark (meaning ts rs l) s a × (s < 16)
+  by_mark l s a mark r = (
+    record {
+      mark = seen_here (holder l.inner.board) l.inner.clock ∙ mark;
+      held = r.0;
+      seat = r.1;
+      activity = r.2;
+      ready = r.3;
+    },
+    below l.inner.seats s r.0 r.1,
+  )
 
   -- what is counted of a tick
   by_given :

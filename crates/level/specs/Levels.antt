@@ -11,7 +11,7 @@ use Rattle.level.specs.declared.ticked.Ticked.{Ticked}
 use Rattle.level.specs.declared.refusal.Refusal.{Refusal}
 use Rattle.level.specs.declared.ticket.Ticket.{Ticket}
 use Rattle.level.specs.Board.{holder}
-use Rattle.level.specs.Seats.{seat_at}
+pub use Rattle.level.specs.Seats.{seat_at}
 use Rattle.level.specs.Meaning.{Meaning, to_wake, to_block, to_begin, to_end, to_leave, to_collect, to_used, to_tick, Event, woke, blocked, began, ended, left, collected, told, ticked, refused}
 use Rattle.level.specs.Steps.{Step, Only}
 use Rattle.level.specs.Together.{Opening, Opens}

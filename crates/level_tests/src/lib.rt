@@ -2,6 +2,7 @@
 // constraints without holding a ticket in between, and the example plan and the free timetable of `cases`.
 #![tactic(auto)]
 
+pub mod beyond;
 pub mod foreign;
 #[cfg(test)]
 mod tests;

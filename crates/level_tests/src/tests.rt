@@ -1,4 +1,5 @@
 // Refusals in their order, both ends of the clock, full windows, all seats, and tickets of other levels.
+use crate::beyond::seat_beyond;
 use crate::foreign::end_elsewhere_first;
 use cases::free::Free;
 use level::level::Level;
@@ -130,6 +131,8 @@ fn all_sixteen_seats_run_their_own_ticks(rt: HostRuntime) {
         assert_eq!(rt; level.wake(seat), Ok(()));
         assert_eq!(rt; open_door(&mut level, seat, 15 - seat, 0, 1, 16), Ok(()));
     }
+    assert!(rt; seat_beyond(&level, 15).is_some());
+    assert!(rt; seat_beyond(&level, 16).is_none());
     for seat in 0..16u8 {
         let run = Ticked {
             tick: i32::from(seat),
