@@ -123,7 +123,7 @@ fields_there b bs c e = by (eqb b 111) (eqb b 119) (eqb b 98) (eqb b 116) (eqb b
     by false false false false false false ho hw hk ht hg hn e = absurd (slipped c e)
 
 -- a line that is read says its command
-line_there : (xs : List ℕ) (c : Command) → line_in xs ≡ Some c → Begins xs c (line_rest xs)
+pub line_there : (xs : List ℕ) (c : Command) → line_in xs ≡ Some c → Begins xs c (line_rest xs)
 unfolding line_in line_rest
 line_there [] c e = absurd (slipped c e)
 line_there (b ∷ bs) c e =
@@ -215,7 +215,7 @@ read_once text c d ys zs p q =
     )
 
 -- a text that is not read begins with no line of a command
-none_there : (xs : List ℕ) → line_in xs ≡ None → (c : Command) (ys : List ℕ) → Begins xs c ys → ⊥
+pub none_there : (xs : List ℕ) → line_in xs ≡ None → (c : Command) (ys : List ℕ) → Begins xs c ys → ⊥
 none_there xs e c ys p =
     let a = line_read c ys p.range in
     slipped c (sym e ∙ (ap line_in p.line ∙ a.0))

@@ -2,6 +2,8 @@
 // It is thin: a whole rehearsal, from the bytes of sheet and script to those of the rows, is proved in `rehearsal`.
 #![tactic(auto)]
 
+ghost use Rattle.std.specs.Prelude.{◌≤◌, length, IfOk};
+
 use anyhow::Context;
 use command::opening::MOST_BYTES;
 use plan::plan::Plan;
@@ -29,13 +31,21 @@ impl Sink for Output<'_> {
     }
 }
 
-// Reads standard input until it ends, or until it is too long for a script: one byte more than a script may have tells that.
-fn read_input(rt: &HostRuntime) -> io::Result<Vec<u8>> {
-    let mut script = Vec::new(rt.alloc());
-    rt.stdin()
-        .take(MOST_BYTES as u64 + 1)
-        .read_to_end(&mut script)?;
-    Ok(script)
+// Reads standard input until it ends or the buffer is full, and says how much it is. A loop: each read takes all that the buffer
+// has room for, since a socket that keeps messages apart loses what a shorter read leaves of one.
+fn read_input(rt: &HostRuntime, buf: &mut [u8]) -> io::Result<usize>
+    ensures { IfOk result (λ n. n ≤ length buf.old) }
+{
+    let mut input = rt.stdin();
+    let mut have = 0;
+    while have < buf.len() {
+        let n = input.read(&mut buf[have..])?;
+        if n == 0 {
+            break;
+        }
+        have += n;
+    }
+    Ok(have)
 }
 
 // Whether the sheet is refused. Want of memory is no verdict on it.
@@ -51,16 +61,17 @@ fn is_refused(heap: Global, sheet: &[u8]) -> anyhow::Result<bool> {
     }
 }
 
-// Beside a refused sheet nobody waits for a script.
+// One byte more than a script may have is enough to tell that it is too long. Beside a refused sheet nobody waits for a script.
 fn run(rt: &HostRuntime) -> anyhow::Result<()> {
     let sheet = fs::read(rt, "plan.bin")?;
-    let script = if is_refused(rt.alloc(), sheet.as_slice())? {
-        Vec::new(rt.alloc())
+    let mut script = [0u8; MOST_BYTES + 1];
+    let size = if is_refused(rt.alloc(), sheet.as_slice())? {
+        0
     } else {
-        read_input(rt)?
+        read_input(rt, &mut script)?
     };
     let mut output = Output { rt };
-    rehearse(rt.alloc(), sheet.as_slice(), script.as_slice(), &mut output)?;
+    rehearse(rt.alloc(), sheet.as_slice(), &script[..size], &mut output)?;
     Ok(())
 }
 

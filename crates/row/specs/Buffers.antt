@@ -1,4 +1,4 @@
--- Rows that wait in a buffer for their sink. A buffer is seen as the bytes that wait in it.
+-- Rows that wait in a buffer for their sink. A buffer is seen here as the bytes that wait in it.
 use Rattle.std.specs.Prelude.{◌≡◌, ℕ, List, [], ◌++◌, Ok, Err, Result, ◌≢◌}
 use Rattle.row.specs.declared.row.RowFault.{RowFault}
 use Rattle.row.specs.Sinks.{Handed}

@@ -1,4 +1,5 @@
 pub mod Rows
 pub mod Fields
 pub mod Sinks
+pub mod Waiting
 pub mod Buffers

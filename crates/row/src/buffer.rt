@@ -16,23 +16,23 @@ pub const BUFFER_SIZE: usize = 65536;
 pub struct RowBuffer {
     bytes: [u8; BUFFER_SIZE],
     used: usize,
+    ghost within: { used ≤ 65536 },
 }
 
-// A clause sees the bytes that wait.
+// A clause sees the bytes that wait. The value carries the fact `few`, so that every caller knows how many they are at most.
 impl Model for RowBuffer {
-    ghost use Rattle.std.specs.Prelude.{ℕ, ◌≤◌, List, take};
+    ghost use Rattle.std.specs.Prelude.{take};
+    ghost use Rattle.row.specs.Waiting.{Waiting, few_taken};
 
-    ghost Value = { List ℕ };
+    ghost Value = { Waiting };
 
-    ghost view = { λ b. take b.used b.bytes };
-
-    ghost invariant = { λ b. b.used ≤ 65536 };
+    ghost view = { λ b. record { bytes = take b.used b.bytes; few = few_taken b.used b.bytes b.within } };
 }
 
 impl RowBuffer {
     /// An empty buffer.
     pub fn new() -> RowBuffer
-        ensures { result ≡ [] }
+        ensures { result.bytes ≡ [] }
     {
         RowBuffer {
             bytes: [0; BUFFER_SIZE],
@@ -42,7 +42,7 @@ impl RowBuffer {
 
     /// Hands all that waits to the sink.
     pub fn flush<S: Sink>(&mut self, sink: &mut S) -> Result<(), S::Fault>
-        ensures { Flushes S.Sink.hands sink.old self.old result sink.new self.new }
+        ensures { Flushes S.Sink.hands sink.old self.old.bytes result sink.new self.new.bytes }
     {
         sink.take(&self.bytes[..self.used])?;
         self.used = 0;
@@ -51,7 +51,7 @@ impl RowBuffer {
 
     // Puts a row behind those that wait, if it has room.
     fn append(&mut self, row: &Row) -> Result<(), RowFault>
-        ensures { Appends self.old (row_text row.now) result self.new }
+        ensures { Appends self.old.bytes (row_text row.now) result self.new.bytes }
     {
         let size = write_row(row, &mut self.bytes[self.used..])?;
         self.used += size;
@@ -60,7 +60,8 @@ impl RowBuffer {
 
     /// Puts a row behind those that wait; where it has no room, they are handed to the sink first.
     pub fn put<S: Sink>(&mut self, row: &Row, sink: &mut S) -> Result<(), S::Fault>
-        ensures { Puts S.Sink.hands sink.old self.old (row_text row.now) result sink.new self.new }
+        ensures puts { Puts S.Sink.hands sink.old self.old.bytes (row_text row.now) result sink.new self.new.bytes }
+        ensures few { length self.new.bytes ≤ 65536 }
     {
         if self.append(row).is_ok() {
             return Ok(());

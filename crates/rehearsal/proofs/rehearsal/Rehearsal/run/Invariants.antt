@@ -7,7 +7,7 @@ abbrev pub invariant-loop-row : goal.invariant-loop-row
 invariant-loop-row g l =
     SoFar g.R.SpareRule g.S.Sink.hands
     (standing g.T.Timetable g.R.SpareRule l.initial.self) l.initial.sink
-    (standing g.T.Timetable g.R.SpareRule l.self) l.sink l.rows
+    (standing g.T.Timetable g.R.SpareRule l.self) l.sink l.rows.bytes
 
 -- a line has at least its byte 10, and says at most 9,999 ticks
 abbrev pub decreases-loop-row : goal.decreases-loop-row

@@ -9,14 +9,16 @@ returns c =
     let b = c.self.inside in
     let t = row_text c.args.row.now in
     let e = c.in_ok-size.ensures in
-    put_behind b.bytes c.write_row.new.out t b.used 65536 c.self.told c.self.invariant e.after c.in_ok-size.size e.value ∙ ap (λ z. z ++ t) c.self.view_is
+    let seen = ap (λ w. w.bytes) c.self.view_is in
+    put_behind b.bytes c.write_row.new.out t b.used 65536 c.self.told b.within e.after c.in_ok-size.size e.value ∙ ap (λ z. z ++ t) seen
 
 pub returns-in_err-size : goal.returns-in_err-size
 returns-in_err-size c =
     let b = c.self.inside in
     let t = row_text c.args.row.now in
     let e = c.in_err-size.ensures in
+    let seen = ap (λ w. w.bytes) c.self.view_is in
     rw (err_from_is_err_and c.from_residual.result c.from_residual.ensures.1).1 (
-      kept_whole b.bytes c.write_row.new.out t b.used 65536 c.self.told c.self.invariant e.after ∙ c.self.view_is,
-      λ none. some_wait b.bytes c.write_row.new.out t b.used 65536 c.self.told c.self.invariant e.after c.in_err-size.field-0.0 e.value (omega (arith, e.short)) (c.self.view_is ∙ none),
+      kept_whole b.bytes c.write_row.new.out t b.used 65536 c.self.told b.within e.after ∙ seen,
+      λ none. some_wait b.bytes c.write_row.new.out t b.used 65536 c.self.told b.within e.after c.in_err-size.field-0.0 e.value (omega (arith, e.short)) (seen ∙ none),
     )

@@ -15,15 +15,15 @@ stays_if : (b t : List ℕ) (r : Result (Unit {0}) RowFault) (b' : List ℕ) →
 stays_if b t (Ok u) b' e h = cc
 stays_if b t (Err f) b' e h = h.0
 
-pub returns-then-is_ok : goal.returns-then-is_ok
-returns-then-is_ok g c = ([], nothing, put_if c.args.self.now (row_text c.args.row.now) c.append.result c.append.new.self (sym c.is_ok.ensures.value ∙ c.if-is_ok.true) c.append.ensures)
+pub returns-then-is_ok-clause-puts : goal.returns-then-is_ok-clause-puts
+returns-then-is_ok-clause-puts g c = ([], nothing, put_if c.args.self.now.bytes (row_text c.args.row.now) c.append.result c.append.new.self.bytes (sym c.is_ok.ensures.value ∙ c.if-is_ok.true) c.append.ensures)
 
-pub returns : goal.returns
-returns g c =
+pub returns-clause-puts : goal.returns-clause-puts
+returns-clause-puts g c =
     let sent = c.in_ok-flush.ensures in
-    let same = stays_if c.args.self.now (row_text c.args.row.now) c.append.result c.append.new.self (sym c.is_ok.ensures.value ∙ c.if-is_ok.false) c.append.ensures in
-    let put = put_if c.flush.new.self (row_text c.args.row.now) c.append-2.result c.append-2.new.self (ap is_ok c.unwrap.ensures) c.append-2.ensures in (
-      c.append.new.self,
-      more c.append.new.self c.flush.new.sink nothing sent.0,
-      ap (λ x. c.append.new.self ++ x) (put ∙ ap (λ x. x ++ row_text c.args.row.now) sent.1) ∙ ap (λ x. x ++ row_text c.args.row.now) same,
+    let same = stays_if c.args.self.now.bytes (row_text c.args.row.now) c.append.result c.append.new.self.bytes (sym c.is_ok.ensures.value ∙ c.if-is_ok.false) c.append.ensures in
+    let put = put_if c.flush.new.self.bytes (row_text c.args.row.now) c.append-2.result c.append-2.new.self.bytes (ap is_ok c.unwrap.ensures) c.append-2.ensures in (
+      c.append.new.self.bytes,
+      more c.append.new.self.bytes c.flush.new.sink nothing sent.0,
+      ap (λ x. c.append.new.self.bytes ++ x) (put ∙ ap (λ x. x ++ row_text c.args.row.now) sent.1) ∙ ap (λ x. x ++ row_text c.args.row.now) same,
     )
