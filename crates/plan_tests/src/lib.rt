@@ -101,6 +101,8 @@ mod tests {
         assert_eq!(rt; plan.owner_at(-1), Some(5));
         assert_eq!(rt; plan.owner_at(0), Some(1));
         assert_eq!(rt; plan.owner_at(i32::MAX), Some(0));
+        assert_eq!(rt; plan.base().ticks, 10);
+        assert_eq!(rt; plan.depth(), 2);
         assert_eq!(rt; plan.cycle().ticks, 40);
         Ok(())
     }
