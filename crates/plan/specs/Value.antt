@@ -1,5 +1,6 @@
--- What a plan is, seen from outside: what it was filled with, and that it is sound.
-use Rattle.std.specs.Prelude.{ℕ, List}
+-- What a plan is, seen from outside: what it was filled with, the vector that holds it, and that it is sound.
+use Rattle.std.specs.Prelude.{ℕ, List, Vec}
+use Rattle.std.specs.Global.{Global}
 use Rattle.plan.specs.declared.entry.Entry.{Entry}
 use Rattle.plan.specs.Told.{Sound}
 
@@ -7,4 +8,6 @@ pub record PlanValue : Type 0 where
   pub base : ℕ
   pub depth : ℕ
   pub entries : List Entry
+  -- the vector that holds the entries, with its memory: a refused fill leaves that too
+  pub stored : Vec Entry Global
   pub sound : Sound base depth entries

@@ -27,7 +27,7 @@ impl Model for Plan {
 
     ghost Value = { PlanValue };
 
-    ghost view = { λ p. record { base = p.base.ticks; depth = p.depth.levels; entries = p.entries.items; sound = p.sound } };
+    ghost view = { λ p. record { base = p.base.ticks; depth = p.depth.levels; entries = p.entries.items; stored = p.entries; sound = p.sound } };
 }
 
 // The activity of the first entry that covers this offset of a frame.

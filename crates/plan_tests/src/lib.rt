@@ -6,6 +6,7 @@
 mod tests {
     use bars::line;
     use cases::example_plan;
+    use cases::free::Free;
     use cases::parts::{deep_entries, entry, is_example};
     use clock::{BasePeriod, Cycle, Place};
     use plan::entry::Entry;
@@ -14,6 +15,26 @@ mod tests {
     use std::test::Fail;
     use timetable::shift::Shift;
     use timetable::table::Timetable;
+
+    // A shift in a struct of a caller's own, which is copied where it is passed by value.
+    #[derive(Clone, Copy)]
+    struct Stage {
+        table: Shift<Free>,
+        number: u8,
+    }
+
+    fn owner_on(stage: Stage, t: i32) -> Option<u8> {
+        stage.table.owner_at(t)
+    }
+
+    fn number_of(stage: Stage) -> u8 {
+        stage.number
+    }
+
+    // Both calls take the stage: this is proved only while a shift is copied with the struct that holds it.
+    fn owner_and_number(stage: Stage, t: i32) -> (Option<u8>, u8) {
+        (owner_on(stage, t), number_of(stage))
+    }
 
     #[test]
     fn places_at_both_ends_of_the_clock(rt: HostRuntime) {
@@ -80,6 +101,8 @@ mod tests {
         assert_eq!(rt; plan.owner_at(-1), Some(5));
         assert_eq!(rt; plan.owner_at(0), Some(1));
         assert_eq!(rt; plan.owner_at(i32::MAX), Some(0));
+        assert_eq!(rt; plan.base().ticks, 10);
+        assert_eq!(rt; plan.depth(), 2);
         assert_eq!(rt; plan.cycle().ticks, 40);
         Ok(())
     }
@@ -95,6 +118,17 @@ mod tests {
         assert_eq!(rt; both.owner_at(-1), Some(1));
         assert_eq!(rt; both.cycle().ticks, 40);
         Ok(())
+    }
+
+    #[test]
+    fn a_shift_is_copied_with_its_struct(rt: HostRuntime) {
+        let stage = Stage {
+            table: Shift::new(Free, i32::MIN),
+            number: 7,
+        };
+        assert_eq!(rt; owner_and_number(stage, i32::MAX), (None, 7));
+        assert_eq!(rt; owner_and_number(stage, 0), (None, 7));
+        assert_eq!(rt; stage.table.cycle().ticks, 1);
     }
 
     #[test]

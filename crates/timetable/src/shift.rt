@@ -2,35 +2,25 @@
 ghost use Rattle.std.specs.Prelude.{◌≡◌, ℕ, ℤ, ◌-ℤ◌};
 ghost use Rattle.std.proofs.Common.{ap, ◌∙◌, arith, rules};
 ghost use Rattle.clock.specs.Floor.{floor_mod};
+ghost use Rattle.timetable.specs.Moved.{timetable_of, ticks_of};
 ghost use Rattle.timetable.specs.Owners.{shifted};
 ghost use Rattle.std.proofs.lemmas.Int.{ints};
 
 use crate::table::Timetable;
 use clock::Cycle;
-use std::marker::Model;
 
 /// The timetable `below`, moved `by` ticks later; a negative `by` moves it earlier.
+// It has no `impl Model`: a `Copy` struct of a caller's own would then not be copied with it (`plan_tests` has one).
 #[derive(Clone, Copy, PartialEq, Eq, Debug, Drop)]
 pub struct Shift<T> {
     below: T,
     by: i32,
 }
 
-impl<T> Model for Shift<T> {
-    ghost use Rattle.std.specs.Prelude.{ℤ};
-    ghost use Rattle.timetable.specs.Moved.{Moved};
-
-    ghost Value = { Moved T };
-
-    ghost view = { λ s. record { below = s.below; by = s.by } };
-
-    ghost inverse = { λ m. record { below = m.below; by = m.by } };
-}
-
 impl<T> Shift<T> {
     /// `below` moved `by` ticks later.
     pub fn new(below: T, by: i32) -> Shift<T>
-        ensures { (result.below ≡ below) × (result.by ≡ by) }
+        ensures { (timetable_of result ≡ below) × (ticks_of result ≡ by) }
     {
         Shift { below, by }
     }
@@ -46,9 +36,9 @@ impl<T: Timetable> Shift<T> {
 }
 
 impl<T: Timetable> Timetable for Shift<T> {
-    ghost owner = { λ s. shifted (T.Timetable.owner s.below) s.by };
+    ghost owner = { λ s. shifted (T.Timetable.owner (timetable_of s)) (ticks_of s) };
 
-    ghost cycle = { λ s. T.Timetable.cycle s.below };
+    ghost cycle = { λ s. T.Timetable.cycle (timetable_of s) };
 
     ghost least = { Prim.search rules };
 

@@ -1,4 +1,4 @@
-use Rattle.std.proofs.Common.{◌≡◌, ℕ, ◌<◌, ℤ, ◌-ℤ◌, to_z, of_z, w32, ap, ◌∙◌, arith}
+use Rattle.std.proofs.Common.{◌≡◌, ℕ, ◌<◌, ℤ, ◌-ℤ◌, ap, ◌∙◌, arith}
 use Rattle.std.proofs.lemmas.Int.{ints}
 use Rattle.clock.specs.Floor.{floor_mod}
 use Rattle.clock.proofs.Laws.{repeats_mod}
@@ -15,6 +15,5 @@ returns g c =
     let s : ℤ = c.args.t -ℤ c.args.self.now.by in
     let some : 0 < g.T.Timetable.cycle c.args.self.now.below = omega (arith, g.met.T.Timetable.least c.args.self.now.below) in
     let e : c.tick_below.result ≡ floor_mod s (g.T.Timetable.cycle c.args.self.now.below) = passed length c.tick_below.ensures (omega (arith, ints)) in
-    c.owner_at.ensures ∙ ap (λ m. g.T.Timetable.owner m.below (to_z w32 (of_z w32 c.from.result))) c.self.view_is
-    ∙ ap (g.T.Timetable.owner below) (omega (arith, ints))
+    c.owner_at.ensures ∙ ap (g.T.Timetable.owner below) (omega (arith, ints))
     ∙ repeats_mod (g.T.Timetable.owner below) length some (g.met.T.Timetable.repeats below) s
