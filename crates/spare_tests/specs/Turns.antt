@@ -1,6 +1,11 @@
 -- The order of the numbers, going round.
 use Rattle.std.specs.Prelude.{◌≡◌, ℕ, ◌+◌, ◌-◌, ◌<◌, ◌≤◌, Bool, true, false, cond, nat_lt}
 
+-- a rule that goes round, as its callers see it: whom it named last, one of the sixteen
+pub record LastNamed : Type 0 where
+  pub last : ℕ
+  pub known : last < 16
+
 -- how many activities come between the one that was named last and another
 abbrev pub between : ℕ → ℕ → ℕ
 between last a = cond (nat_lt last a) (a - (last + 1)) (a + 15 - last)

@@ -13,20 +13,22 @@ use std::ops::Range;
 #[derive(Drop)]
 pub struct RoundRobin {
     last: u8,
+    ghost known: { last < 16 },
 }
 
+// The value carries the fact `known`, so that every caller has it.
 impl Model for RoundRobin {
-    ghost Value = { ℕ };
+    ghost use Rattle.spare_tests.specs.Turns.{LastNamed};
 
-    ghost view = { λ r. r.last };
+    ghost Value = { LastNamed };
 
-    ghost invariant = { λ r. r.last < 16 };
+    ghost view = { λ r. record { last = r.last; known = r.known } };
 }
 
 impl RoundRobin {
     /// The rule that asks 0 first.
     pub fn new() -> RoundRobin
-        ensures { result ≡ 15 }
+        ensures { result.last ≡ 15 }
     {
         RoundRobin { last: 15 }
     }
@@ -40,7 +42,7 @@ fn first_ready(mut activities: Range<u8>, ready: ReadySet) -> Option<u8>
 }
 
 impl SpareRule for RoundRobin {
-    ghost distance = { between };
+    ghost distance = { λ r. between r.last };
 
     ghost patience = { λ _. 15 };
 
