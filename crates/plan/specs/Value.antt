@@ -1,5 +1,5 @@
 -- What a plan is, seen from outside: what it was filled with, the vector that holds it, and that it is sound.
-use Rattle.std.specs.Prelude.{ℕ, List, Vec}
+use Rattle.std.specs.Prelude.{◌≡◌, ℕ, List, Vec, vec_items}
 use Rattle.std.specs.Global.{Global}
 use Rattle.plan.specs.declared.entry.Entry.{Entry}
 use Rattle.plan.specs.Told.{Sound}
@@ -10,4 +10,5 @@ pub record PlanValue : Type 0 where
   pub entries : List Entry
   -- the vector that holds the entries, with its memory: a refused fill leaves that too
   pub stored : Vec Entry Global
+  pub holds : vec_items stored ≡ entries
   pub sound : Sound base depth entries

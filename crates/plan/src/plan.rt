@@ -23,11 +23,12 @@ pub struct Plan {
 }
 
 impl Model for Plan {
+    ghost use Rattle.std.specs.Prelude.{refl};
     ghost use Rattle.plan.specs.Value.{PlanValue};
 
     ghost Value = { PlanValue };
 
-    ghost view = { λ p. record { base = p.base.ticks; depth = p.depth.levels; entries = p.entries.items; stored = p.entries; sound = p.sound } };
+    ghost view = { λ p. record { base = p.base.ticks; depth = p.depth.levels; entries = p.entries.items; stored = p.entries; holds = refl; sound = p.sound } };
 }
 
 // The activity of the first entry that covers this offset of a frame.

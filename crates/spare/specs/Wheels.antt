@@ -1,5 +1,5 @@
 -- What a wheel is, and what one call of it does.
-use Rattle.std.specs.Prelude.{◌≡◌, ℕ, ◌+◌, ◌%◌, ◌<◌, ◌≤◌, Bool, List, ◌++◌, length, take, drop, Some, None, Option, Vec, slice_index}
+use Rattle.std.specs.Prelude.{◌≡◌, ℕ, ◌+◌, ◌%◌, ◌<◌, ◌≤◌, Bool, List, ◌++◌, length, take, drop, Some, None, Option, Vec, slice_index, vec_items}
 use Rattle.std.specs.declared.alloc.Global.{Global}
 use Rattle.spare.specs.Orders.{first_ready, passed_over, times}
 
@@ -15,6 +15,7 @@ pub record MarkedTable : Type 0 where
   pub places : List ℕ
   -- with its memory, which a refused filling leaves as it was
   pub stored : Vec ℕ Global
+  pub holds : vec_items stored ≡ places
   pub mark : ℕ
   pub table : Table places
   pub marked : mark < length places

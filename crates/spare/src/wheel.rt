@@ -21,11 +21,12 @@ pub struct Wheel {
 // The value carries the facts `table` and `marked`, since the law `bounded` of a rule is asked of every value, and the vector,
 // since a refused `fill` leaves its memory as it was.
 impl Model for Wheel {
+    ghost use Rattle.std.specs.Prelude.{refl};
     ghost use Rattle.spare.specs.Wheels.{MarkedTable};
 
     ghost Value = { MarkedTable };
 
-    ghost view = { λ w. record { places = w.places.items; stored = w.places; mark = w.mark; table = w.table; marked = w.marked } };
+    ghost view = { λ w. record { places = w.places.items; stored = w.places; holds = refl; mark = w.mark; table = w.table; marked = w.marked } };
 }
 
 impl Wheel {
